@@ -1,0 +1,4 @@
+pub mod Each
+pub mod Map
+pub mod Count
+pub mod Buffer

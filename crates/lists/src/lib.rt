@@ -1,0 +1,1 @@
+// Definitions and laws about lists: this crate has no function.
