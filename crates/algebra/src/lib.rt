@@ -1,0 +1,1 @@
+// Primes, rings and coefficient lists: this crate has no function.
