@@ -1,0 +1,3 @@
+pub mod Coins
+pub mod Doomed
+pub mod Process

@@ -1,0 +1,4 @@
+pub mod Coins
+pub mod Doomed
+pub mod Process
+pub mod Theorems
