@@ -1,0 +1,20 @@
+-- `Field::reduce` meets its contract: a remainder by 0 is the number itself.
+-- Assumes nothing.
+use borrow.Author.Needs.{needs}
+use native.Mathlib.Nat.{mod-zero}
+use Prim.Native.Nat.{ℕ, _%_}
+use mathlib.Core.Path.{sym, ap, _∙_}
+use Rattle.field.proofs.Field.reduce.Statement.{statement}
+use Rattle.field.proofs.Field.reduce.Tie as tie
+
+returns : tie.Need-returns
+returns c = sym (ap (λ (p : ℕ). c .before .args .word % p) (c .if1 .taken) ∙ mod-zero (c .before .args .word))
+
+rem-result : tie.Need-rem-result
+rem-result c = search needs
+
+returns-2 : tie.Need-returns-2
+returns-2 c = search needs
+
+pub reduce-spec : {M : Type 1} → statement M
+reduce-spec = tie.close (tie.spec returns rem-result returns-2)
