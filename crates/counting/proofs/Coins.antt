@@ -11,7 +11,7 @@ use Rattle.lists.specs.Each.{All}
 use Rattle.lists.specs.Count.{sum, one-if, count, range}
 use Rattle.lists.proofs.Each.{all-weaken, all-map, all-flatMap}
 use Rattle.lists.proofs.Map.{map-map}
-use Rattle.lists.proofs.Count.{sum-same, sum-le, sum-scale, sum-const, sum-flatMap, count-sum, count-map, count-flatMap, count-same, count-le, count-or, count-none, count-every, count-below, length-range, all-range}
+use Rattle.lists.proofs.Count.{sum-nil, sum-cons, count-nil, count-cons, sum-same, sum-le, sum-scale, sum-const, sum-flatMap, count-sum, count-map, count-flatMap, count-same, count-le, count-or, count-none, count-every, count-below, length-range, all-range}
 use Rattle.counting.specs.Coins.{CoinList, coinLists, passing, same}
 use Rattle.counting.specs.Theorems.{OnlyCoinLists, EachOnce, Total, SplitAtFirst, SplitAfter, Monotone, Union, EveryOne, Blocks}
 
@@ -37,12 +37,12 @@ split-at-first p n test =
     (λ c l. count-map (λ cs. c ∷ cs) test (coinLists p n)) (range p) (all-range p)
 
 pub split-none : (p : ℕ) (test : List ℕ → Bool) → passing p 0 test ≡ one-if (test [])
-unfolding coinLists count sum
-split-none p test = add-zero (one-if (test []))
+unfolding coinLists
+split-none p test = count-cons test [] [] ∙ ap (λ (k : ℕ). one-if (test []) + k) (count-nil test) ∙ add-zero (one-if (test []))
 
 pub split-after : SplitAfter
-unfolding coinLists sum
-split-after p zero n test = rw zero-add (sym (add-zero (passing p n test)))
+unfolding coinLists
+split-after p zero n test = rw zero-add (sym (sum-cons (passing p n test) [] ∙ ap (λ (k : ℕ). passing p n test + k) sum-nil ∙ add-zero (passing p n test)))
 split-after p (suc m) n test =
     rw suc-add
     (split-at-first p (m + n) test

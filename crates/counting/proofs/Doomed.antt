@@ -9,7 +9,7 @@ use native.Mathlib.Nat.{le-refl, le-trans, le-of-eq, add-zero, one-mul, zero-mul
 use native.Mathlib.Omega.{arith}
 use lib.ListN.{length}
 use Rattle.lists.specs.Count.{sum, one-if, count, range}
-use Rattle.lists.proofs.Count.{sum-le, sum-add, sum-scale, sum-const, count-sum, count-none, count-not, length-range, all-range}
+use Rattle.lists.proofs.Count.{sum-nil, sum-cons, sum-le, sum-add, sum-scale, sum-const, count-sum, count-none, count-not, length-range, all-range}
 use Rattle.counting.specs.Coins.{CoinList, passing}
 use Rattle.counting.specs.Doomed.{Doomed, Fails, luckless}
 use Rattle.counting.specs.Theorems.{LossesAdd, LossesMultiply, Stages}
@@ -85,13 +85,12 @@ module _ (p : ℕ) where
 
   -- a factor p moves into the power; at the empty list both sides are 0
   shift : (losses : List ℕ) → p * (sum losses * p ^ (length losses - 1)) ≡ sum losses * p ^ length losses
-  unfolding sum
-  shift [] = rw zero-mul (mul-zero p)
-  shift (d ∷ losses) = rw (suc-sub-suc, sub-zero, pow-succ') (mul-left-comm p (d + sum losses) (p ^ length losses))
+  shift [] = rw (sum-nil, zero-mul) (mul-zero p)
+  shift (d ∷ losses) = rw (suc-sub-suc, sub-zero, pow-succ') (mul-left-comm p (sum (d ∷ losses)) (p ^ length losses))
 
   -- the sum of the losses leaves no less than the luckless lists
   sum-bound : (losses : List ℕ) → p ^ length losses ≤ luckless p losses + sum losses * p ^ (length losses - 1)
-  unfolding luckless sum
+  unfolding luckless
   sum-bound [] = rw pow-zero (omega arith)
   sum-bound (d ∷ losses) =
       let n : ℕ = length losses in
@@ -99,7 +98,7 @@ module _ (p : ℕ) where
       let ih : p * p ^ n ≤ p * (s + sum losses * p ^ (n - 1)) = mul-le-mul-left p (sum-bound losses) in
       let part : p * s ≤ (p - d + d) * s = mul-le-mul-right s (omega arith) in
       let lost : d * s ≤ d * p ^ n = mul-le-mul-left d (luckless-le losses) in
-      rw (pow-succ', suc-sub-suc, sub-zero) (omega (arith, ih, part, lost, shift losses))
+      rw (pow-succ', suc-sub-suc, sub-zero, sum-cons) (omega (arith, ih, part, lost, shift losses))
 
 pub losses-multiply : LossesMultiply
 unfolding Doomed luckless

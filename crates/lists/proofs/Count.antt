@@ -85,6 +85,10 @@ module _ {A : Type 0} where
   unfolding count
   count-sum f l = refl
 
+  pub count-nil : (f : A → Bool) → count f [] ≡ 0
+  unfolding count sum
+  count-nil f = refl
+
   pub count-cons : (f : A → Bool) (x : A) (l : List A) → count f (x ∷ l) ≡ one-if (f x) + count f l
   unfolding count sum
   count-cons f x l = refl

@@ -12,6 +12,14 @@ use native.Mathlib.Decide.{decLe, ℕ-discrete}
 use lib.Dec.{T, eqb, ltb, leb, eqb-refl, eqb→eq, ltb→lt, leb→le, lt→ltb, T-not}
 use Rattle.primes.specs.Prime.{Prime, listed, isOneOf, ListedArePrime}
 
+pub one-of-nil : (p : ℕ) → isOneOf [] p ≡ false
+unfolding isOneOf
+one-of-nil p = refl
+
+pub one-of-cons : (q : ℕ) (l : List ℕ) (p : ℕ) → isOneOf (q ∷ l) p ≡ (eqb p q || isOneOf l p)
+unfolding isOneOf
+one-of-cons q l p = refl
+
 -- d divides p and is smaller
 splits : ℕ → ℕ → Bool
 splits p d = eqb (p % d) 0 && ltb d p
