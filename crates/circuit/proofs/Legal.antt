@@ -1,0 +1,104 @@
+-- Laws of legality: a list's words from a place on, a gate by its words, layer by layer.
+-- Assumes nothing.
+use Prim.Native.Nat.{ℕ, zero, suc, _+_, _-_, _*_, _^_, _≤_, _<_}
+use mathlib.Core.Path.{_≡_, refl, sym, ap, ap₂, _∙_}
+use mathlib.Core.Bool.{Bool, true, false, not, _&&_, _||_}
+use mathlib.Core.List.{List, [], _∷_}
+use native.Mathlib.Nat.{add-zero}
+use native.Mathlib.Numerals.{add-one}
+use native.Mathlib.Omega.{arith}
+use lib.Dec.{ltb, eqb}
+use lib.ListN.{length, getD, drop, drop-of-length-le}
+use lib.Seq.{drop-cons, drop-drop, getD-drop}
+use borrow.Author.Tests.{lt-ltb, le-ltb, lt-leb, le-leb, eq-eqb, ne-eqb}
+use Rattle.refusal.specs.Order.{need, first}
+use Rattle.circuit.specs.Gate.{Gate, gate}
+use Rattle.circuit.specs.Circuit.{gatesOf}
+use Rattle.circuit.specs.Legal.{allBelow, wiresGood, gateCause, gatesCause}
+
+-- WORDS BELOW A BOUND, from place i on
+below-at : (p : ℕ) (ws : List ℕ) (i : ℕ) → i < length ws → allBelow p (drop i ws) ≡ (ltb (getD ws i 0) p && allBelow p (drop (i + 1) ws))
+unfolding allBelow
+below-at p ws i h = rw (add-one, drop-cons ws i 0 h)
+
+pub below-fails : (p : ℕ) (ws : List ℕ) (i : ℕ) → i < length ws → p ≤ getD ws i 0 → allBelow p (drop i ws) ≡ false
+below-fails p ws i h l = below-at p ws i h ∙ ap (λ (b : Bool). b && allBelow p (drop (i + 1) ws)) (le-ltb (getD ws i 0) p l)
+
+pub below-goes-on : (p : ℕ) (ws : List ℕ) (i : ℕ) → i < length ws → getD ws i 0 < p → allBelow p (drop i ws) ≡ allBelow p (drop (i + 1) ws)
+below-goes-on p ws i h l = below-at p ws i h ∙ ap (λ (b : Bool). b && allBelow p (drop (i + 1) ws)) (lt-ltb (getD ws i 0) p l)
+
+pub below-ends : (p : ℕ) (ws : List ℕ) (i : ℕ) → length ws ≤ i → allBelow p (drop i ws) ≡ true
+unfolding allBelow
+below-ends p ws i h = ap (allBelow p) (drop-of-length-le ws h)
+
+-- A GATE, by its words
+module _ (next kind left right : ℕ) where
+  pub gate-kind : 2 < kind → gateCause next (gate kind left right) ≡ 6
+  unfolding gateCause
+  gate-kind h = simp (lt-leb kind 2 h)
+
+  module _ (known : kind ≤ 2) where
+    pub gate-left : next ≤ left → gateCause next (gate kind left right) ≡ 7
+    unfolding gateCause wiresGood
+    gate-left h = simp (le-leb kind 2 known, le-ltb left next h)
+
+    module _ (l : left < next) where
+      pub gate-right : next ≤ right → gateCause next (gate kind left right) ≡ 7
+      unfolding gateCause wiresGood
+      gate-right h = simp (le-leb kind 2 known, lt-ltb left next l, le-ltb right next h)
+
+      module _ (r : right < next) where
+        pub gate-order : right < left → gateCause next (gate kind left right) ≡ 7
+        unfolding gateCause wiresGood
+        gate-order h = simp (le-leb kind 2 known, lt-ltb left next l, lt-ltb right next r, lt-leb left right h)
+
+        module _ (o : left ≤ right) where
+          pub gate-used : 0 < kind → gateCause next (gate kind left right) ≡ 0
+          unfolding gateCause wiresGood
+          gate-used h =
+              let used : eqb kind 0 ≡ false = ne-eqb kind 0 (λ e. omega arith) in
+              simp (le-leb kind 2 known, lt-ltb left next l, lt-ltb right next r, le-leb left right o, used)
+
+          pub gate-wired-empty : kind ≤ 0 → 0 < right → gateCause next (gate kind left right) ≡ 7
+          unfolding gateCause wiresGood
+          gate-wired-empty h w =
+              let empty : eqb kind 0 ≡ true = eq-eqb kind 0 (omega arith) in
+              let wired : eqb right 0 ≡ false = ne-eqb right 0 (λ e. omega arith) in
+              simp (le-leb kind 2 known, lt-ltb left next l, lt-ltb right next r, le-leb left right o, empty, wired) (either (eqb left 0))
+            where
+              either : (b : Bool) → need (b && false) 7 0 ≡ 7
+              either true = refl
+              either false = refl
+
+          pub gate-empty : right ≤ 0 → gateCause next (gate kind left right) ≡ 0
+          unfolding gateCause wiresGood
+          gate-empty w =
+              let lz : eqb left 0 ≡ true = eq-eqb left 0 (omega arith) in
+              let rz : eqb right 0 ≡ true = eq-eqb right 0 (omega arith) in
+              simp (le-leb kind 2 known, lt-ltb left next l, lt-ltb right next r, le-leb left right o, lz, rz) (either (not (eqb kind 0)))
+            where
+              either : (b : Bool) → need (b || true) 7 0 ≡ 0
+              either true = refl
+              either false = refl
+
+-- GATES, from gate i on
+gates-cons : (n at : ℕ) (c : List ℕ)
+    → gatesOf (suc n) (drop at c) ≡ gate (getD c at 0) (getD c (at + 1) 0) (getD c (at + 2) 0) ∷ gatesOf n (drop (at + 3) c)
+unfolding gatesOf
+gates-cons n at c =
+    let zeroth : getD (drop at c) 0 0 ≡ getD c at 0 = getD-drop at c 0 0 ∙ ap (λ (k : ℕ). getD c k 0) (add-zero at) in
+    rw (zeroth, getD-drop at c 1 0, getD-drop at c 2 0, drop-drop 3 at c)
+
+pub gates-at : (next count i at : ℕ) (c : List ℕ) → i < count
+    → gatesCause next (gatesOf (count - i) (drop (at + 3 * i) c))
+      ≡ first (gateCause next (gate (getD c (at + 3 * i) 0) (getD c (at + 3 * i + 1) 0) (getD c (at + 3 * i + 2) 0)))
+        (gatesCause next (gatesOf (count - (i + 1)) (drop (at + 3 * (i + 1)) c)))
+unfolding gatesCause
+gates-at next count i at c h =
+    let more : count - i ≡ suc (count - (i + 1)) = omega arith in
+    let on : at + 3 * (i + 1) ≡ at + 3 * i + 3 = omega arith in
+    rw (more, on, gates-cons (count - (i + 1)) (at + 3 * i) c)
+
+pub gates-end : (next count i : ℕ) (ws : List ℕ) → count ≤ i → gatesCause next (gatesOf (count - i) ws) ≡ 0
+unfolding gatesCause gatesOf
+gates-end next count i ws h = let none : count - i ≡ 0 = omega arith in rw none

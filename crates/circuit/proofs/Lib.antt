@@ -1,0 +1,3 @@
+pub mod Legal
+pub mod Sized
+pub mod Loading

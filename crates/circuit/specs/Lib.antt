@@ -1,0 +1,6 @@
+pub mod Limits
+pub mod Gate
+pub mod Circuit
+pub mod Legal
+pub mod Evaluate
+pub mod Sized

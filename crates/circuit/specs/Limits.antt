@@ -1,0 +1,11 @@
+-- The limits of a circuit.
+-- Assumes nothing.
+use Prim.Native.Nat.{ℕ}
+
+-- "D from 1 to 16"
+abbrev pub maxDepth : ℕ
+maxDepth = 16
+
+-- "its width exponent k_i, from 0 to 8"
+abbrev pub maxExponent : ℕ
+maxExponent = 8

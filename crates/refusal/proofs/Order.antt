@@ -1,0 +1,50 @@
+-- Laws of refusals in order.
+-- Assumes nothing.
+use Prim.Native.Nat.{ℕ, zero, suc}
+use mathlib.Core.Path.{_≡_, refl, sym, ap, _∙_}
+use mathlib.Core.Bool.{Bool, true, false}
+use native.Mathlib.Nat.{suc-ne-zero}
+use Rattle.refusal.specs.Number.{numberOf}
+use Rattle.refusal.specs.Order.{need, first}
+use Rattle.refusal.specs.declared.Cause.{Cause}
+use Rattle.refusal.specs.declared.Cause.the-variants.{HeaderShort, PrimeUnlisted, DepthRange, ExponentRange, WordCount, GateKind, GateWires, InputCount, InputWord, BufferShort, CoinCount, CoinWord, OutputWord, MessageLength, MessageWord, RoundDiffers, LineDiffers, InputDiffers, RecordUnfit, BytesUnfit}
+
+-- each number is above 0
+numbered : (cause : Cause) (rest : ℕ) → first (numberOf cause) rest ≡ numberOf cause
+numbered HeaderShort rest = refl
+numbered PrimeUnlisted rest = refl
+numbered DepthRange rest = refl
+numbered ExponentRange rest = refl
+numbered WordCount rest = refl
+numbered GateKind rest = refl
+numbered GateWires rest = refl
+numbered InputCount rest = refl
+numbered InputWord rest = refl
+numbered BufferShort rest = refl
+numbered CoinCount rest = refl
+numbered CoinWord rest = refl
+numbered OutputWord rest = refl
+numbered MessageLength rest = refl
+numbered MessageWord rest = refl
+numbered RoundDiffers rest = refl
+numbered LineDiffers rest = refl
+numbered InputDiffers rest = refl
+numbered RecordUnfit rest = refl
+numbered BytesUnfit rest = refl
+
+-- a refusal is passed on
+pub refused-first : (cause : Cause) (n rest : ℕ) → numberOf cause ≡ n → first n rest ≡ numberOf cause
+refused-first cause n rest e = ap (λ (k : ℕ). first k rest) (sym e) ∙ numbered cause rest
+
+-- no refusal: the next check decides
+pub legal-first : (n rest : ℕ) → 0 ≡ n → first n rest ≡ rest
+legal-first n rest e = ap (λ (k : ℕ). first k rest) (sym e)
+
+-- no refusal of both: none of either
+pub first-none : (n rest : ℕ) → first n rest ≡ 0 → (n ≡ 0) × (rest ≡ 0)
+first-none zero rest e = (refl, e)
+first-none (suc n) rest e = absurd (suc-ne-zero n e)
+
+pub need-none : (b : Bool) (cause rest : ℕ) → need b (suc cause) rest ≡ 0 → (b ≡ true) × (rest ≡ 0)
+need-none true cause rest e = (refl, e)
+need-none false cause rest e = absurd (suc-ne-zero cause e)
