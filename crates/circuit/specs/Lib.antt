@@ -3,4 +3,5 @@ pub mod Gate
 pub mod Circuit
 pub mod Legal
 pub mod Evaluate
+pub mod Layer
 pub mod Sized

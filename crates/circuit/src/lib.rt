@@ -4,11 +4,14 @@ use refusal::{Cause, Checked};
 ghost use mathlib.Core.Path.{_≡_};
 ghost use Prim.Native.Nat.{_+_, _*_, _^_, _≤_};
 ghost use lib.ListN.{length, drop};
+ghost use Rattle.lists.specs.Buffer.{over};
 ghost use Rattle.refusal.specs.Number.{causeOf};
+ghost use Rattle.field.specs.Modulus.{numbers};
 ghost use Rattle.circuit.specs.Limits.{maxDepth, maxExponent};
-ghost use Rattle.circuit.specs.Gate.{gate};
+ghost use Rattle.circuit.specs.Gate.{gate, operate};
 ghost use Rattle.circuit.specs.Circuit.{primeOf, exponents, outputExponent, gatesOf, gateCount, gateLayers, wordCount, inputCount};
 ghost use Rattle.circuit.specs.Legal.{allBelow, gateCause, gatesCause, layersCause, loadAnswer, inputCause, listsCause};
+ghost use Rattle.circuit.specs.Layer.{layerValues, Fillable};
 ghost use Rattle.circuit.specs.Sized.{Exponents, LegalCircuit, Sized};
 
 pub const MAX_DEPTH: u32 = 16;
@@ -165,4 +168,38 @@ pub fn check_lists(circuit: &[u32], input: &[u32]) -> Checked
         return Checked::Refused(Cause::InputWord);
     }
     Checked::Legal
+}
+
+// A gate's value from those of its wires.
+pub fn gate_value(f: Field, kind: u32, x: u32, y: u32) -> u32
+    ensures { λ r. ⌜ r ≡ operate (numbers f) kind x y ⌝ }
+{
+    match kind {
+        1 => f.add(x, y),
+        2 => f.mul(x, y),
+        _ => 0,
+    }
+}
+
+// Writes the values of `gates` over the front of `values`, behind which stand the next layer's, `next` of them.
+fn fill_layer(f: Field, gates: &[u32], count: usize, next: usize, values: &mut [u32])
+    requires { ⌜ Fillable (now gates) count next (now values) ⌝ }
+    ensures { λ _. ⌜ now (values .exit) ≡ over (layerValues (numbers f) count (now (gates .entry)) (now (values .entry))) (now (values .entry)) ⌝ }
+{
+    for i in 0..count {
+        let g = 3 * i;
+        let x = values[count + gates[g + 1] as usize];
+        let y = values[count + gates[g + 2] as usize];
+        values[i] = gate_value(f, gates[g], x, y);
+    }
+}
+
+// Writes `words` over the front of a buffer.
+pub fn copy_front(buffer: &mut [u32], words: &[u32])
+    requires { ⌜ length (now words) ≤ length (now buffer) ⌝ }
+    ensures { λ _. ⌜ now (buffer .exit) ≡ over (now (words .entry)) (now (buffer .entry)) ⌝ }
+{
+    for i in 0..words.len() {
+        buffer[i] = words[i];
+    }
 }

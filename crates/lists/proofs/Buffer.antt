@@ -1,12 +1,12 @@
 -- Laws of words written over a buffer: what stands where, and one message after another.
 -- Assumes nothing.
-use mathlib.Core.Path.{_≡_, sym, ap, _∙_}
+use mathlib.Core.Path.{_≡_, sym, ap, _∙_, subst}
 use mathlib.Core.List.{List, [], _∷_, _++_, append-assoc, append-nil}
 use Prim.Native.Nat.{ℕ, suc, _+_, _-_, _≤_, _<_}
 use native.Mathlib.Omega.{arith}
 use native.Mathlib.Numerals.{add-one}
 use lib.ListN.{length, getD, set, take, drop, length-append, length-drop, drop-of-length-le}
-use lib.Seq.{take-at, drop-at, drop-drop, take-all, drop-cons, set-at, take-append-seam, drop-append-seam, getD-append-add, getD-drop}
+use lib.Seq.{take-suc, length-take-le, take-at, drop-at, drop-drop, take-all, drop-cons, set-at, take-append-seam, drop-append-seam, getD-append-add, getD-drop}
 use Rattle.lists.specs.Buffer.{over}
 
 module _ {A : Type 0} where
@@ -22,6 +22,11 @@ module _ {A : Type 0} where
   -- a word behind those written is as it was
   pub getD-over-rest : (ms l : List A) (i : ℕ) (d : A) → getD (over ms l) (length ms + i) d ≡ getD l (length ms + i) d
   getD-over-rest ms l i d = getD-append-add ms (drop (length ms) l) i d ∙ getD-drop (length ms) l i d
+
+  pub getD-over-after : (ms l : List A) (j : ℕ) (d : A) → length ms ≤ j → getD (over ms l) j d ≡ getD l j d
+  getD-over-after ms l j d h =
+      let e : length ms + (j - length ms) ≡ j = omega arith in
+      subst (λ (k : ℕ). getD (over ms l) k d ≡ getD l k d) e (getD-over-rest ms l (j - length ms) d)
 
   -- one word more, stored directly behind those that stand
   pub over-set : (ms l : List A) (n : ℕ) (x : A) → length ms ≡ n → n < length l
@@ -47,3 +52,13 @@ module _ {A : Type 0} where
       let whole : take (length buf - at) (drop (length ms) l) ≡ drop (length ms) l = take-all (length buf - at) (drop (length ms) l) all in
       let none : drop (length buf - at) (drop (length ms) l) ≡ [] = drop-of-length-le (drop (length ms) l) all in
       rw (p, rest, front, whole, none) (simp (drop-drop, length-append, append-assoc, append-nil))
+
+  -- A list stored word by word: i of them stand, then one more, then all.
+  pub over-next : (ms l : List A) (i : ℕ) (d : A) → i < length ms → length ms ≤ length l
+      → set (over (take i ms) l) i (getD ms i d) ≡ over (take (i + 1) ms) l
+  over-next ms l i d h fits =
+      over-set (take i ms) l i (getD ms i d) (length-take-le i ms (omega arith)) (omega arith)
+      ∙ ap (λ (t : List A). over t l) (sym (take-suc ms i d h) ∙ ap (λ (k : ℕ). take k ms) (sym (add-one i)))
+
+  pub over-all : (ms l : List A) (i : ℕ) → length ms ≤ i → over (take i ms) l ≡ over ms l
+  over-all ms l i h = ap (λ (t : List A). over t l) (take-all i ms h)

@@ -1,0 +1,20 @@
+-- One layer of an evaluation, as the code fills it: a layer's values go directly before those of the layer after it.
+-- Assumes nothing.
+use Prim.Native.Nat.{ℕ, _+_, _*_, _≤_}
+use mathlib.Core.Path.{_≡_}
+use mathlib.Core.List.{List, map}
+use lib.ListN.{length, drop}
+use Rattle.algebra.specs.Numbers.{Numbers}
+use Rattle.circuit.specs.Gate.{gateValue}
+use Rattle.circuit.specs.Circuit.{gatesOf}
+use Rattle.circuit.specs.Legal.{gatesCause}
+
+-- the values of the first `count` gates of a list of words, where the next layer's stand behind `count` places
+unfoldable pub layerValues : Numbers ℕ → ℕ → List ℕ → List ℕ → List ℕ
+layerValues N count gates values = map (gateValue N (drop count values)) (gatesOf count gates)
+
+-- the words are there, the gates are legal above `next` gates, and those have their values
+pub record Fillable (gates : List ℕ) (count next : ℕ) (values : List ℕ) : Type 0 where
+  pub words : 3 * count ≤ length gates
+  pub legal : gatesCause next (gatesOf count gates) ≡ 0
+  pub room : count + next ≤ length values
