@@ -4,11 +4,11 @@ use Prim.Native.Nat.{ℕ, zero, suc, _+_, _-_, _*_, _≤_, _<_}
 use mathlib.Core.Path.{_≡_, refl, sym, ap, ap₂, _∙_}
 use mathlib.Core.Bool.{Bool, true, false, _&&_, false≢true}
 use mathlib.Core.List.{List, [], _∷_, map}
-use native.Mathlib.Nat.{le-of-suc-le-suc}
+use native.Mathlib.Nat.{le-of-suc-le-suc, sub-zero, suc-sub-suc}
 use native.Mathlib.Omega.{arith}
 use lib.Dec.{ltb, leb, eqb}
 use lib.ListN.{length, getD, set, take, drop, length-map}
-use lib.Seq.{getD-drop, length-take-le}
+use lib.Seq.{getD-drop, getD-take, length-take-le, take-nil}
 use Rattle.lists.specs.Buffer.{over}
 use Rattle.lists.proofs.Buffer.{over-next, getD-over-after}
 use borrow.Author.Tests.{ltb-true}
@@ -123,3 +123,32 @@ fill-step p count gates before values i r h fits e v =
       v ∙ ap₂ (operate (words p) (getD gates (3 * i) 0)) (kept (getD gates (3 * i + 1) 0)) (kept (getD gates (3 * i + 2) 0))
       ∙ sym (layer-at p count gates before i h) in
     ap₂ (λ (l : List ℕ) (x : ℕ). set l i x) e same ∙ over-next layer before i 0 (omega arith) (omega arith)
+
+-- gates whose wires are below `next` see no more of the values
+pub values-agree : (p next : ℕ) (gs : List Gate) (v w : List ℕ) → gatesCause next gs ≡ 0
+    → ((i : ℕ) → i < next → getD v i 0 ≡ getD w i 0) → map (gateValue (words p) v) gs ≡ map (gateValue (words p) w) gs
+unfolding gatesCause gateValue
+values-agree p next [] v w e same = refl
+values-agree p next (g ∷ gs) v w e same =
+    let parts = first-none (gateCause next g) (gatesCause next gs) e in
+    let wires = gate-wires next g (parts .0) in
+    ap₂ (λ (x : ℕ) (l : List ℕ). x ∷ l)
+      (ap₂ (operate (words p) (g .kind)) (same (g .left) (wires .left)) (same (g .right) (wires .right)))
+      (values-agree p next gs v w (parts .1) same)
+
+-- the gates of a part that has all their words
+pub gates-part : (n m : ℕ) (ws : List ℕ) → 3 * n ≤ m → gatesOf n (take m ws) ≡ gatesOf n ws
+unfolding gatesOf
+gates-part zero m ws h = refl
+gates-part (suc n) m ws h =
+    let three : drop 3 (take m ws) ≡ take (m - 3) (drop 3 ws) = drop-take 3 m ws (omega arith) in
+    let zeroth : getD (take m ws) 0 0 ≡ getD ws 0 0 = getD-take m ws 0 0 (omega arith) in
+    let first : getD (take m ws) 1 0 ≡ getD ws 1 0 = getD-take m ws 1 0 (omega arith) in
+    let second : getD (take m ws) 2 0 ≡ getD ws 2 0 = getD-take m ws 2 0 (omega arith) in
+    rw (zeroth, first, second, three, gates-part n (m - 3) (drop 3 ws) (omega arith))
+  where
+    drop-take : (a b : ℕ) (l : List ℕ) → a ≤ b → drop a (take b l) ≡ take (b - a) (drop a l)
+    drop-take zero b l q = ap (λ (k : ℕ). take k l) (sym (sub-zero b))
+    drop-take (suc a) zero l q = absurd (omega arith)
+    drop-take (suc a) (suc b) [] q = sym (take-nil (suc b - suc a))
+    drop-take (suc a) (suc b) (x ∷ l) q = drop-take a b l (omega arith) ∙ ap (λ (k : ℕ). take k (drop a l)) (sym (suc-sub-suc b a))

@@ -2,3 +2,4 @@ pub mod Legal
 pub mod Sized
 pub mod Loading
 pub mod Filling
+pub mod Evaluating

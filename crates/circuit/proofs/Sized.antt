@@ -4,7 +4,7 @@ use Prim.Native.Nat.{ℕ, zero, suc, _+_, _-_, _*_, _^_, _≤_, _<_}
 use mathlib.Core.Path.{_≡_, refl, sym, ap, ap₂, _∙_, subst}
 use mathlib.Core.Bool.{Bool, true, false, _&&_, false≢true}
 use mathlib.Core.List.{List, [], _∷_}
-use native.Mathlib.Nat.{pow-le-pow-right}
+use native.Mathlib.Nat.{pow-le-pow-right, le-refl}
 use native.Mathlib.Numerals.{add-one}
 use native.Mathlib.Omega.{arith}
 use lib.Dec.{ltb, lit<}
@@ -15,7 +15,7 @@ use Rattle.refusal.specs.Order.{first}
 use Rattle.circuit.specs.Limits.{maxDepth, maxExponent}
 use Rattle.circuit.specs.Circuit.{depth, exponents, exponentAt, outputExponent, gatesOf, layersOf, gateLayers, gateCount, wordCount, inputExponent}
 use Rattle.circuit.specs.Legal.{allBelow, gatesCause, layersCause}
-use Rattle.circuit.specs.Sized.{Exponents, Sized, LegalCircuit}
+use Rattle.circuit.specs.Sized.{Exponents, Sized, LegalCircuit, LayerOf}
 
 -- a list whose words are all below a bound, at a place
 pub below-each : (p : ℕ) (ws : List ℕ) (i : ℕ) → allBelow p ws ≡ true → i < length ws → getD ws i 0 < p
@@ -38,7 +38,7 @@ below-rest p w ws e = go (ltb w p) e
     go false f = absurd (false≢true f)
 
 -- a layer's width
-width-le : (k : ℕ) → k ≤ maxExponent → 2 ^ k ≤ 256
+pub width-le : (k : ℕ) → k ≤ maxExponent → 2 ^ k ≤ 256
 width-le k h = pow-le-pow-right (lit< tt) h
 
 -- at most 256 gates a layer
@@ -49,6 +49,14 @@ count-bound k (k′ ∷ ks) l e =
     let w = width-le k l in
     let low : k′ < maxExponent + 1 = below-each (maxExponent + 1) (k′ ∷ ks) 0 e (omega arith) in
     let ih = count-bound k′ ks (omega arith) (below-rest (maxExponent + 1) k′ ks e) in
+    omega arith
+
+count-others : (ks : List ℕ) → allBelow (maxExponent + 1) ks ≡ true → 0 < length ks → length ks ≤ maxDepth → gateCount outputExponent ks + 255 ≤ 256 * maxDepth
+unfolding gateCount
+count-others [] e l m = absurd (omega arith)
+count-others (k ∷ ks) e l m =
+    let low : k < maxExponent + 1 = below-each (maxExponent + 1) (k ∷ ks) 0 e (omega arith) in
+    let b = count-bound k ks (omega arith) (below-rest (maxExponent + 1) k ks e) in
     omega arith
 
 module _ (c : List ℕ) (d : ℕ) (h : Exponents c d) where
@@ -79,7 +87,7 @@ module _ (c : List ℕ) (d : ℕ) (h : Exponents c d) where
   width-small i r l e = rw (e (exponent-small i l)) (width-le (getD c (2 + i) 0) (exponent-small i l))
 
   -- the exponents from i on
-  exponents-at : (i : ℕ) → i < d → drop i (exponents c) ≡ exponentAt c (i + 1) ∷ drop (i + 1) (exponents c)
+  pub exponents-at : (i : ℕ) → i < d → drop i (exponents c) ≡ exponentAt c (i + 1) ∷ drop (i + 1) (exponents c)
   exponents-at i l = rw add-one (drop-cons (exponents c) i 0 (omega (arith, length-exponents)))
 
   pub count-at : (k i : ℕ) → i < d
@@ -117,18 +125,34 @@ module _ (c : List ℕ) (d : ℕ) (h : Sized c d) where
   unfolding gateLayers
   layers-start = ap (λ (n : ℕ). layersCause (exponents c) (layersOf outputExponent (exponents c) (drop (2 + n) c))) (sym (h .headed .is-depth))
 
+-- a layer's exponent is word 1 + layer
+module _ (c : List ℕ) (layer : ℕ) (h : LayerOf c layer) (pos : 0 < layer) where
+  shifted : 2 + (layer - 1) ≡ 1 + layer
+  shifted = omega arith
+
+  pub layer-small : getD c (1 + layer) 0 ≤ maxExponent
+  layer-small = subst (λ (i : ℕ). getD c i 0 ≤ maxExponent) shifted (exponent-small c (depth c) (h .headed) (layer - 1) (omega (arith, h .inside)))
+
+  pub layer-word : getD c (1 + layer) 0 ≡ exponentAt c layer
+  layer-word =
+      let back : layer - 1 + 1 ≡ layer = omega arith in
+      ap (λ (i : ℕ). getD c i 0) (sym shifted) ∙ exponent-word c (depth c) (h .headed) (layer - 1) (omega (arith, h .inside)) ∙ ap (exponentAt c) back
+
+-- k_D is word 1 + D
 module _ (c : List ℕ) (h : LegalCircuit c) where
-  -- k_D is word 1 + D
-  pub last-exponent : getD c (1 + depth c) 0 ≡ inputExponent c
-  unfolding inputExponent
-  last-exponent =
-      let s = h .some in
-      let at : 1 + depth c ≡ 2 + (depth c - 1) = omega arith in
-      let last : depth c - 1 + 1 ≡ length (exponents c) = omega (arith, length-exponents c (depth c) (h .sized .headed)) in
-      ap (λ (i : ℕ). getD c i 0) at ∙ exponent-word c (depth c) (h .sized .headed) (depth c - 1) (omega arith) ∙ ap (exponentAt c) last
+  last-layer : LayerOf c (depth c)
+  last-layer = record { headed = h .sized .headed; inside = le-refl (depth c) }
 
   pub last-small : getD c (1 + depth c) 0 ≤ maxExponent
-  last-small =
-      let s = h .some in
-      let at : 2 + (depth c - 1) ≡ 1 + depth c = omega arith in
-      subst (λ (i : ℕ). getD c i 0 ≤ maxExponent) at (exponent-small c (depth c) (h .sized .headed) (depth c - 1) (omega arith))
+  last-small = layer-small c (depth c) last-layer (h .some)
+
+  pub last-exponent : getD c (1 + depth c) 0 ≡ inputExponent c
+  unfolding inputExponent
+  last-exponent = layer-word c (depth c) last-layer (h .some) ∙ ap (exponentAt c) (sym (length-exponents c (depth c) (h .sized .headed)))
+
+  -- one gate in layer 0 and at most 256 in each of the others
+  pub count-tight : gateCount outputExponent (exponents c) + 255 ≤ 256 * maxDepth
+  count-tight = count-others (exponents c) (h .sized .headed .small) (omega (arith, size, h .some)) (omega (arith, size, h .sized .headed .shallow))
+    where
+      size : length (exponents c) ≡ depth c
+      size = length-exponents c (depth c) (h .sized .headed)

@@ -3,8 +3,9 @@
 use Prim.Native.Nat.{ℕ, _+_, _*_, _≤_}
 use mathlib.Core.Path.{_≡_}
 use mathlib.Core.List.{List, map}
-use lib.ListN.{length, drop}
+use lib.ListN.{length, take, drop}
 use Rattle.algebra.specs.Numbers.{Numbers}
+use Rattle.circuit.specs.Limits.{maxValues}
 use Rattle.circuit.specs.Gate.{gateValue}
 use Rattle.circuit.specs.Circuit.{gatesOf}
 use Rattle.circuit.specs.Legal.{gatesCause}
@@ -18,3 +19,8 @@ pub record Fillable (gates : List ℕ) (count next : ℕ) (values : List ℕ) : 
   pub words : 3 * count ≤ length gates
   pub legal : gatesCause next (gatesOf count gates) ≡ 0
   pub room : count + next ≤ length values
+
+-- a working array with a list at its place
+pub record Placed (words : List ℕ) (at : ℕ) (values : List ℕ) : Type 0 where
+  pub size : length values ≡ maxValues
+  pub there : take (length words) (drop at values) ≡ words

@@ -9,3 +9,7 @@ maxDepth = 16
 -- "its width exponent k_i, from 0 to 8"
 abbrev pub maxExponent : ℕ
 maxExponent = 8
+
+-- "all 4,097 gate and input words of the largest circuit"
+abbrev pub maxValues : ℕ
+maxValues = 4097

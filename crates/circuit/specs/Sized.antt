@@ -28,3 +28,8 @@ pub record LegalCircuit (c : List ℕ) : Type 0 where
   pub listed : isListed (primeOf c) ≡ true
   pub some : 1 ≤ depth c
   pub wired : layersCause (exponents c) (gateLayers c) ≡ 0
+
+-- a layer of a list whose exponents are there
+pub record LayerOf (c : List ℕ) (layer : ℕ) : Type 0 where
+  pub headed : Exponents c (depth c)
+  pub inside : layer ≤ depth c

@@ -3,20 +3,25 @@ use field::Field;
 use refusal::{Cause, Checked};
 ghost use mathlib.Core.Path.{_≡_};
 ghost use Prim.Native.Nat.{_+_, _*_, _^_, _≤_};
-ghost use lib.ListN.{length, drop};
+ghost use mathlib.Core.List.{flatten};
+ghost use lib.ListN.{length, take, drop};
 ghost use Rattle.lists.specs.Buffer.{over};
 ghost use Rattle.refusal.specs.Number.{causeOf};
 ghost use Rattle.field.specs.Modulus.{numbers};
-ghost use Rattle.circuit.specs.Limits.{maxDepth, maxExponent};
+ghost use Rattle.circuit.specs.Limits.{maxExponent, maxValues};
 ghost use Rattle.circuit.specs.Gate.{gate, operate};
-ghost use Rattle.circuit.specs.Circuit.{primeOf, exponents, outputExponent, gatesOf, gateCount, gateLayers, wordCount, inputCount};
+ghost use Rattle.circuit.specs.Circuit.{exponents, exponentAt, outputExponent, gatesOf, gateCount, gateLayers, inputCount, valueCount};
 ghost use Rattle.circuit.specs.Legal.{allBelow, gateCause, gatesCause, layersCause, loadAnswer, inputCause, listsCause};
-ghost use Rattle.circuit.specs.Layer.{layerValues, Fillable};
-ghost use Rattle.circuit.specs.Sized.{Exponents, LegalCircuit, Sized};
+ghost use Rattle.circuit.specs.Evaluate.{layers};
+ghost use Rattle.circuit.specs.Layer.{layerValues, Fillable, Placed};
+ghost use Rattle.circuit.specs.Sized.{Exponents, LayerOf, LegalCircuit, Sized};
 
 pub const MAX_DEPTH: u32 = 16;
 
 pub const MAX_EXPONENT: u32 = 8;
+
+// The gate and input words of the largest circuit.
+pub const MAX_VALUES: usize = 4097;
 
 // The number of gates of a layer of width exponent k.
 pub fn width(k: u32) -> usize
@@ -202,4 +207,47 @@ pub fn copy_front(buffer: &mut [u32], words: &[u32])
     for i in 0..words.len() {
         buffer[i] = words[i];
     }
+}
+
+// The number of gates of a layer.
+fn layer_width(circuit: &[u32], layer: usize) -> usize
+    requires { ⌜ LayerOf (now circuit) layer ⌝ }
+    ensures { λ r. ⌜ r ≡ 2 ^ exponentAt (now (circuit .entry)) layer ⌝ }
+{
+    if layer == 0 {
+        return 1;
+    }
+    width(circuit[1 + layer])
+}
+
+// A working array with the input in its place.
+fn place_input(input: &[u32], at: usize) -> [u32; MAX_VALUES]
+    requires { ⌜ at + length (now input) ≤ maxValues ⌝ }
+    ensures { λ r. ⌜ Placed (now (input .entry)) at r ⌝ }
+{
+    let mut values = [0u32; MAX_VALUES];
+    copy_front(&mut values[at..], input);
+    values
+}
+
+// The values of all layers, the output's first, in a working array that is filled from the input up.
+pub fn all_values(circuit: &[u32], input: &[u32]) -> [u32; MAX_VALUES]
+    requires { ⌜ LegalCircuit (now circuit) × (length (now input) ≡ inputCount (now circuit)) ⌝ }
+    ensures { λ r. ⌜ take (valueCount (now (circuit .entry))) r ≡ flatten (layers (now (circuit .entry)) (now (input .entry))) ⌝ }
+{
+    let f = Field::of(circuit[0]);
+    let depth = circuit[1] as usize;
+    let start = 2 + depth;
+    let mut at = gate_count(circuit, depth);
+    let mut values = place_input(input, at);
+    let mut next = input.len();
+    for i in 0..depth {
+        let count = layer_width(circuit, depth - 1 - i);
+        at -= count;
+        let from = start + 3 * at;
+        let to = from + 3 * count;
+        fill_layer(f, &circuit[from..to], count, next, &mut values[at..]);
+        next = count;
+    }
+    values
 }

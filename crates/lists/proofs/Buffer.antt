@@ -62,3 +62,12 @@ module _ {A : Type 0} where
 
   pub over-all : (ms l : List A) (i : ℕ) → length ms ≤ i → over (take i ms) l ≡ over ms l
   over-all ms l i h = ap (λ (t : List A). over t l) (take-all i ms h)
+
+  -- The rest of a list of n words from `at` on, lent as the borrow checker lends it, and put back.
+  pub rest-lent : (l : List A) (at n : ℕ) → length l ≡ n → take (n - at) (drop at l) ≡ drop at l
+  rest-lent l at n e = take-all (n - at) (drop at l) (simp length-drop (omega arith))
+
+  pub rest-back : (l part : List A) (at n : ℕ) → length l ≡ n → take at l ++ (part ++ drop (n - at) (drop at l)) ≡ take at l ++ part
+  rest-back l part at n e =
+      let none : drop (n - at) (drop at l) ≡ [] = drop-of-length-le (drop at l) {i = n - at} (simp length-drop (omega arith)) in
+      ap (λ (t : List A). take at l ++ (part ++ t)) none ∙ ap (λ (t : List A). take at l ++ t) (append-nil part)

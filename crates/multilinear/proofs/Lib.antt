@@ -1,0 +1,9 @@
+pub mod Bits
+pub mod Sum
+pub mod Weight
+pub mod Extension
+pub mod Halving
+pub mod Hom
+pub mod Linear
+pub mod Degree
+pub mod Words

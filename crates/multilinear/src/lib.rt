@@ -1,0 +1,1 @@
+// The multilinear extension and its laws: this crate has no function.
