@@ -7,9 +7,9 @@ use native.Mathlib.Nat.{le-refl, le-of-eq, sub-zero}
 use native.Mathlib.Numerals.{add-one}
 use native.Mathlib.Omega.{arith}
 use lib.ListN.{length, take, drop, getD, length-append, length-drop, length-map, drop-of-length-le, List·getD-append}
-use lib.Seq.{length-take-le, take-at, drop-at, drop-cons, drop-drop, getD-drop, getD-take, take-append-add}
+use lib.Seq.{length-take-le, drop-at, drop-cons, drop-drop, getD-drop, getD-take, take-append-add}
 use native.Mathlib.Decide.{decLe}
-use Rattle.primes.specs.Prime.{Prime}
+use lib.Pow.{pow-pos}
 use Rattle.primes.proofs.Prime.{listed-prime}
 use Rattle.refusal.proofs.Order.{first-none}
 use Rattle.lists.specs.Buffer.{over}
@@ -18,8 +18,8 @@ use Rattle.algebra.specs.Numbers.{Numbers, words}
 use Rattle.circuit.specs.Limits.{maxValues, maxExponent}
 use Rattle.circuit.specs.Gate.{Gate, gateValue}
 use Rattle.circuit.specs.Circuit.{primeOf, depth, exponents, exponentAt, outputExponent, gatesStart, gatesOf, layersOf, gateLayers, gateCount, inputExponent, inputCount, valueCount}
-use Rattle.circuit.specs.Evaluate.{layersFrom, layers}
-use Rattle.circuit.specs.Layer.{layerValues, Fillable, Placed}
+use Rattle.circuit.specs.Evaluate.{layersFrom, layers, valuesAt, value}
+use Rattle.circuit.specs.Layer.{layerValues, AllValues, Fillable, Placed}
 use Rattle.circuit.specs.Legal.{gatesCause, layersCause}
 use Rattle.circuit.specs.Sized.{Exponents, LegalCircuit}
 use Rattle.circuit.proofs.Sized.{length-exponents, count-at, count-end, count-tight, layers-at, layers-start, sized-count, exponents-at, width-le, last-exponent, last-small}
@@ -46,7 +46,8 @@ module _ (values part ws : List ℕ) (at : ℕ) (size : length values ≡ maxVal
   pub placed : Placed ws at (take at values ++ (part ++ drop (maxValues - at) (drop at values)))
   placed = record {
     size = ap length put ∙ put-size;
-    there = ap (λ (l : List ℕ). take (length ws) (drop at l)) put ∙ ap (take (length ws)) put-rest ∙ take-over ws (drop at values) }
+    there = ap (λ (l : List ℕ). take (length ws) (drop at l)) put ∙ ap (take (length ws)) put-rest ∙ take-over ws (drop at values);
+  }
 
 -- layers j to D stand at their place, which begins at `at`
 pub record Filled (c input values : List ℕ) (j at : ℕ) : Type 0 where
@@ -94,7 +95,7 @@ module _ (c input : List ℕ) (h : LegalCircuit c) (sized : length input ≡ inp
   counts-fall (suc j) l =
       let ih = counts-fall j (omega arith) in
       let e : gateCount (exponentAt c j) (drop j ks) ≡ 2 ^ exponentAt c j + gateCount (exponentAt c (suc j)) (drop (suc j) ks) =
-        rw (← add-one j) (count-at c (depth c) heads (exponentAt c j) j l) in
+      rw (← add-one j) (count-at c (depth c) heads (exponentAt c j) j l) in
       omega arith
 
   pub total-fits : valueCount c ≤ maxValues
@@ -134,7 +135,7 @@ module _ (c input : List ℕ) (h : LegalCircuit c) (sized : length input ≡ inp
   wired-from (suc j) at l e =
       let k : ℕ = exponentAt c j in
       let more : gateCount k (drop j ks) ≡ 2 ^ k + gateCount (exponentAt c (suc j)) (drop (suc j) ks) =
-        rw (← add-one j) (count-at c (depth c) heads k j l) in
+      rw (← add-one j) (count-at c (depth c) heads k j l) in
       let fits = counts-fall j (omega arith) in
       let before : at ≡ (at - 2 ^ k) + 2 ^ k = omega arith in
       let ih = wired-from j (at - 2 ^ k) (omega arith) (omega arith) in
@@ -142,7 +143,7 @@ module _ (c input : List ℕ) (h : LegalCircuit c) (sized : length input ≡ inp
       let place : gatesStart c + 3 * (at - 2 ^ k) + 3 * 2 ^ k ≡ gatesStart c + 3 * at = omega arith in
       let from : ℕ = gatesStart c + 3 * (at - 2 ^ k) in
       let rest = first-none (gatesCause (2 ^ exponentAt c (j + 1)) (gatesOf (2 ^ k) (drop from c)))
-        (layersCause (drop (j + 1) ks) (layersOf (exponentAt c (j + 1)) (drop (j + 1) ks) (drop (from + 3 * 2 ^ k) c))) (sym step ∙ ih) .1 in
+      (layersCause (drop (j + 1) ks) (layersOf (exponentAt c (j + 1)) (drop (j + 1) ks) (drop (from + 3 * 2 ^ k) c))) (sym step ∙ ih) .1 in
       subst₂ (λ (m n : ℕ). layersCause (drop m ks) (layersOf (exponentAt c m) (drop m ks) (drop n c)) ≡ 0) (add-one j) place rest
 
   abbrev N : Numbers ℕ
@@ -154,14 +155,15 @@ module _ (c input : List ℕ) (h : LegalCircuit c) (sized : length input ≡ inp
   filled-input values at e placed =
       let none : drop (depth c) ks ≡ [] = drop-of-length-le ks {i = depth c} (omega (arith, length-exponents c (depth c) heads)) in
       let only : layersOf (exponentAt c (depth c)) (drop (depth c) ks) (drop (gatesStart c + 3 * at) c) ≡ [] =
-        ap (λ (t : List ℕ). layersOf (exponentAt c (depth c)) t (drop (gatesStart c + 3 * at) c)) none in
+      ap (λ (t : List ℕ). layersOf (exponentAt c (depth c)) t (drop (gatesStart c + 3 * at) c)) none in
       let n : valueCount c - at ≡ length input = omega arith in
       record {
         inside = le-refl (depth c);
         place = omega (arith, e, count-end c (depth c) heads (exponentAt c (depth c)) (depth c) (le-refl (depth c)));
         size = placed .size;
         holds = ap (λ (m : ℕ). take m (drop at values)) n ∙ placed .there
-          ∙ sym (ap (λ (ls : List (List Gate)). flatten (layersFrom N ls input)) only ∙ layers-none N input) }
+            ∙ sym (ap (λ (ls : List (List Gate)). flatten (layersFrom N ls input)) only ∙ layers-none N input);
+      }
 
   -- ONE LAYER MORE, where layers j + 1 to D stand at `from`
   module _ (j from count next : ℕ) (values : List ℕ) (inside : j < depth c) (F : Filled c input values (j + 1) from)
@@ -193,14 +195,14 @@ module _ (c input : List ℕ) (h : LegalCircuit c) (sized : length input ≡ inp
         ap (λ (t : List ℕ). layersOf (exponentAt c j) t gates) (exponents-at c (depth c) heads j inside)
         ∙ ap (λ (n : ℕ). gatesOf n gates ∷ layersOf (exponentAt c (j + 1)) (drop (j + 1) ks) (drop (3 * n) gates)) (sym counted)
         ∙ ap (λ (t : List ℕ). gatesOf count gates ∷ layersOf (exponentAt c (j + 1)) (drop (j + 1) ks) t)
-            (drop-drop (3 * count) (gatesStart c + 3 * at) c ∙ ap (λ (n : ℕ). drop n c) on)
+        (drop-drop (3 * count) (gatesStart c + 3 * at) c ∙ ap (λ (n : ℕ). drop n c) on)
 
     legal : gatesCause next (gatesOf count gates) ≡ 0
     legal =
         let step = layers-at c (depth c) heads (exponentAt c j) j (gatesStart c + 3 * at) count next inside counted following in
         first-none (gatesCause next (gatesOf count gates))
-          (layersCause (drop (j + 1) ks) (layersOf (exponentAt c (j + 1)) (drop (j + 1) ks) (drop (gatesStart c + 3 * at + 3 * count) c)))
-          (sym step ∙ wired-from j at (omega arith) place) .0
+        (layersCause (drop (j + 1) ks) (layersOf (exponentAt c (j + 1)) (drop (j + 1) ks) (drop (gatesStart c + 3 * at + 3 * count) c)))
+        (sym step ∙ wired-from j at (omega arith) place) .0
 
     room : at + (count + next) ≤ maxValues
     unfolding valueCount
@@ -213,10 +215,11 @@ module _ (c input : List ℕ) (h : LegalCircuit c) (sized : length input ≡ inp
     fillable : Fillable (take (gatesStart c + 3 * at + 3 * count - (gatesStart c + 3 * at)) gates) count next (take (maxValues - at) (drop at values))
     fillable = record {
       words = subst (λ (l : List ℕ). 3 * count ≤ length l) (sym part)
-        (le-of-eq (sym (length-take-le (3 * count) gates (simp length-drop (omega (arith, gates-fit))))));
+          (le-of-eq (sym (length-take-le (3 * count) gates (simp length-drop (omega (arith, gates-fit))))));
       legal = ap (λ (l : List ℕ). gatesCause next (gatesOf count l)) part ∙ ap (gatesCause next) (gates-part count (3 * count) gates (le-refl (3 * count))) ∙ legal;
       room = subst (λ (l : List ℕ). count + next ≤ length l) (sym (rest-lent values at maxValues (F .size)))
-        (simp length-drop (omega (arith, room, F .size))) }
+          (simp length-drop (omega (arith, room, F .size)));
+    }
 
     abbrev below : List (List Gate)
     below = layersOf (exponentAt c (j + 1)) (drop (j + 1) (exponents c)) (drop (gatesStart c + 3 * from) c)
@@ -228,9 +231,9 @@ module _ (c input : List ℕ) (h : LegalCircuit c) (sized : length input ≡ inp
         let first : List ℕ = getD (layersFrom N below input) 0 [] in
         let rest : List ℕ = flatten (drop 1 (layersFrom N below input)) in
         let size : length first ≡ next =
-          first-size N (exponentAt c (j + 1)) (drop (j + 1) ks) (drop (gatesStart c + 3 * from) c) input
-            (sized ∙ ap (λ (k : ℕ). 2 ^ k) (sym (last-at (j + 1) (omega arith))))
-          ∙ sym following in
+        first-size N (exponentAt c (j + 1)) (drop (j + 1) ks) (drop (gatesStart c + 3 * from) c) input
+        (sized ∙ ap (λ (k : ℕ). 2 ^ k) (sym (last-at (j + 1) (omega arith))))
+        ∙ sym following in
         let fits = next-room (j + 1) (omega arith) in
         sym (getD-take (valueCount c - from) (drop from values) i 0 (omega (arith, F .place, following, fits)))
         ∙ ap (λ (t : List ℕ). getD t i 0) (F .holds ∙ layers-first N below input)
@@ -246,21 +249,21 @@ module _ (c input : List ℕ) (h : LegalCircuit c) (sized : length input ≡ inp
     unfolding layerValues
     layer-is =
         ap₂ (λ (v : List ℕ) (gs : List Gate). map (gateValue N v) gs) behind
-          (ap (gatesOf count) part ∙ gates-part count (3 * count) gates (le-refl (3 * count)))
+        (ap (gatesOf count) part ∙ gates-part count (3 * count) gates (le-refl (3 * count)))
         ∙ values-agree (primeOf c) next (gatesOf count gates) (drop from values) (getD (layersFrom N below input) 0 []) legal seen
 
     -- the array with the layer before those that stood, as the borrow checker gives it
     filled-layer : (q : ℕ) (rest : List ℕ) → q ≡ primeOf c
         → rest ≡ over (layerValues (words q) count (take (gatesStart c + 3 * at + 3 * count - (gatesStart c + 3 * at)) gates) (take (maxValues - at) (drop at values)))
-          (take (maxValues - at) (drop at values))
+        (take (maxValues - at) (drop at values))
         → Filled c input (take at values ++ (rest ++ drop (maxValues - at) (drop at values))) j at
     unfolding valueCount
     filled-layer q rest eq e =
         let n : length layer ≡ count = length-layer N count (take (gatesStart c + 3 * at + 3 * count - (gatesStart c + 3 * at)) gates) (drop at values) in
         let fits : at + length layer ≤ maxValues = omega (arith, room) in
         let now : rest ≡ over layer (take (maxValues - at) (drop at values)) =
-          e ∙ ap₂ (λ (p : ℕ) (v : List ℕ). over (layerValues (words p) count (take (gatesStart c + 3 * at + 3 * count - (gatesStart c + 3 * at)) gates) v)
-                (take (maxValues - at) (drop at values))) eq (rest-lent values at maxValues (F .size)) in
+        e ∙ ap₂ (λ (p : ℕ) (v : List ℕ). over (layerValues (words p) count (take (gatesStart c + 3 * at + 3 * count - (gatesStart c + 3 * at)) gates) v)
+        (take (maxValues - at) (drop at values))) eq (rest-lent values at maxValues (F .size)) in
         let whole = put values rest layer at (F .size) fits now in
         let long : valueCount c - at ≡ length layer + (valueCount c - from) = omega (arith, layer-fits, F .place) in
         let tail : drop (length layer) (drop at values) ≡ drop from values = ap (λ (m : ℕ). drop m (drop at values)) n ∙ behind in
@@ -269,13 +272,14 @@ module _ (c input : List ℕ) (h : LegalCircuit c) (sized : length input ≡ inp
           place = place;
           size = ap length whole ∙ put-size values rest layer at (F .size) fits now;
           holds =
-            ap (λ (l : List ℕ). take (valueCount c - at) (drop at l)) whole
-            ∙ ap (take (valueCount c - at)) (put-rest values rest layer at (F .size) fits now)
-            ∙ ap (λ (m : ℕ). take m (layer ++ drop (length layer) (drop at values))) long
-            ∙ take-append-add layer (drop (length layer) (drop at values)) (valueCount c - from)
-            ∙ ap₂ (λ (a b : List ℕ). a ++ take (valueCount c - from) b) layer-is tail
-            ∙ ap (λ (l : List ℕ). map (gateValue N (getD (layersFrom N below input) 0 [])) (gatesOf count gates) ++ l) (F .holds)
-            ∙ sym (ap (λ (ls : List (List Gate)). flatten (layersFrom N ls input)) layers-split ∙ layers-more N (gatesOf count gates) below input) }
+              ap (λ (l : List ℕ). take (valueCount c - at) (drop at l)) whole
+              ∙ ap (take (valueCount c - at)) (put-rest values rest layer at (F .size) fits now)
+              ∙ ap (λ (m : ℕ). take m (layer ++ drop (length layer) (drop at values))) long
+              ∙ take-append-add layer (drop (length layer) (drop at values)) (valueCount c - from)
+              ∙ ap₂ (λ (a b : List ℕ). a ++ take (valueCount c - from) b) layer-is tail
+              ∙ ap (λ (l : List ℕ). map (gateValue N (getD (layersFrom N below input) 0 [])) (gatesOf count gates) ++ l) (F .holds)
+              ∙ sym (ap (λ (ls : List (List Gate)). flatten (layersFrom N ls input)) layers-split ∙ layers-more N (gatesOf count gates) below input);
+        }
 
   -- the same by the loop's count: turn i fills layer D - 1 - i
   module _ (i from count next : ℕ) (values : List ℕ) (inside : i < depth c) (F : Filled c input values (depth c - i) from)
@@ -294,7 +298,8 @@ module _ (c input : List ℕ) (h : LegalCircuit c) (sized : length input ≡ inp
     turn-sizes = (
       layer-fits (depth c - 1 - i) from count next values (omega arith) F′ counted following′,
       gates-fit (depth c - 1 - i) from count next values (omega arith) F′ counted following′,
-      omega (arith, F .place, total-fits))
+      omega (arith, F .place, total-fits),
+    )
 
     pub turn-width : count ≡ 2 ^ exponentAt c (depth c - (i + 1))
     turn-width = let on : depth c - 1 - i ≡ depth c - (i + 1) = omega arith in counted ∙ ap (λ (j : ℕ). 2 ^ exponentAt c j) on
@@ -305,25 +310,28 @@ module _ (c input : List ℕ) (h : LegalCircuit c) (sized : length input ≡ inp
 
     pub turn-filled : (q : ℕ) (rest : List ℕ) → q ≡ primeOf c
         → rest ≡ over (layerValues (words q) count (take (gatesStart c + 3 * (from - count) + 3 * count - (gatesStart c + 3 * (from - count))) (drop (gatesStart c + 3 * (from - count)) c))
-            (take (maxValues - (from - count)) (drop (from - count) values)))
-          (take (maxValues - (from - count)) (drop (from - count) values))
+        (take (maxValues - (from - count)) (drop (from - count) values)))
+        (take (maxValues - (from - count)) (drop (from - count) values))
         → Filled c input (take (from - count) values ++ (rest ++ drop (maxValues - (from - count)) (drop (from - count) values))) (depth c - (i + 1)) (from - count)
     turn-filled q rest eq e =
         let on : depth c - 1 - i ≡ depth c - (i + 1) = omega arith in
         subst (λ (j : ℕ). Filled c input (take (from - count) values ++ (rest ++ drop (maxValues - (from - count)) (drop (from - count) values))) j (from - count)) on
-          (filled-layer (depth c - 1 - i) from count next values (omega arith) F′ counted following′ q rest eq e)
+        (filled-layer (depth c - 1 - i) from count next values (omega arith) F′ counted following′ q rest eq e)
 
   -- all layers stand
-  pub filled-all : (values : List ℕ) (j at : ℕ) → j ≡ 0 → Filled c input values j at → take (valueCount c) values ≡ flatten (layers c input)
+  pub filled-all : (values : List ℕ) (j at : ℕ) → j ≡ 0 → Filled c input values j at → AllValues c input values
   unfolding layers gateLayers
   filled-all values j at top G =
       let F = subst (λ (i : ℕ). Filled c input values i at) top G in
       let z : at ≡ 0 = omega (arith, F .place) in
       let start : gatesStart c + 3 * 0 ≡ gatesStart c = omega arith in
       let holds = subst (λ (m : ℕ). take (valueCount c - m) (drop m values)
-        ≡ flatten (layersFrom N (layersOf outputExponent ks (drop (gatesStart c + 3 * m) c)) input)) z (F .holds) in
-      ap (λ (m : ℕ). take m values) (sym (sub-zero (valueCount c))) ∙ holds
-      ∙ ap (λ (m : ℕ). flatten (layersFrom N (layersOf outputExponent ks (drop m c)) input)) start
+      ≡ flatten (layersFrom N (layersOf outputExponent ks (drop (gatesStart c + 3 * m) c)) input)) z (F .holds) in
+      record {
+        size = F .size;
+        holds = ap (λ (m : ℕ). take m values) (sym (sub-zero (valueCount c))) ∙ holds
+            ∙ ap (λ (m : ℕ). flatten (layersFrom N (layersOf outputExponent ks (drop m c)) input)) start;
+      }
 
   -- before the first turn
   pub input-fits : (at : ℕ) → at ≡ gateCount outputExponent (exponents c) → at + length input ≤ maxValues
@@ -337,6 +345,18 @@ module _ (c input : List ℕ) (h : LegalCircuit c) (sized : length input ≡ inp
   unfolding inputExponent
   input-width =
       sized ∙ ap (λ (j : ℕ). 2 ^ exponentAt c j) (length-exponents c (depth c) heads ∙ sym (sub-zero (depth c)))
+
+  -- the array's first word is the output
+  pub output-first : (values : List ℕ) → take (valueCount c) values ≡ flatten (layers c input) → getD values 0 0 ≡ value c input
+  unfolding layers gateLayers valuesAt value valueCount
+  output-first values v =
+      let ls : List (List Gate) = layersOf outputExponent ks (drop (gatesStart c) c) in
+      let first : List ℕ = getD (layersFrom N ls input) 0 [] in
+      let size : length first ≡ 1 =
+      first-size N outputExponent ks (drop (gatesStart c) c) input (sized ∙ ap (λ (k : ℕ). 2 ^ k) (sym (last-at 0 (omega arith)))) in
+      sym (getD-take (valueCount c) values 0 0 (omega (arith, pow-pos (inputExponent c))))
+      ∙ ap (λ (t : List ℕ). getD t 0 0) (v ∙ layers-first N ls input)
+      ∙ List·getD-append first (flatten (drop 1 (layersFrom N ls input))) 0 0 (omega arith)
 
 -- the field of a listed prime
 pub prime-modulus : (c : List ℕ) → LegalCircuit c → (largest : ℕ) → largest ≡ primeOf c - 1 → largest + 1 ≡ primeOf c

@@ -6,7 +6,7 @@ use mathlib.Core.Bool.{Bool, true, false, _&&_, false≢true}
 use mathlib.Core.List.{List, [], _∷_, map}
 use native.Mathlib.Nat.{le-of-suc-le-suc, sub-zero, suc-sub-suc}
 use native.Mathlib.Omega.{arith}
-use lib.Dec.{ltb, leb, eqb}
+use lib.Dec.{ltb, leb}
 use lib.ListN.{length, getD, set, take, drop, length-map}
 use lib.Seq.{getD-drop, getD-take, length-take-le, take-nil}
 use Rattle.lists.specs.Buffer.{over}
@@ -41,6 +41,7 @@ gate-words (suc n) (suc i) ws e h =
   where
     shift : (j : ℕ) → getD (drop 3 ws) j 0 ≡ getD ws (3 + j) 0
     shift j = getD-drop 3 ws j 0
+
     shifts : (getD (drop 3 ws) (3 * i) 0 ≡ getD ws (3 * suc i) 0) × (getD (drop 3 ws) (3 * i + 1) 0 ≡ getD ws (3 * suc i + 1) 0)
         × (getD (drop 3 ws) (3 * i + 2) 0 ≡ getD ws (3 * suc i + 2) 0)
     shifts =
@@ -69,7 +70,8 @@ gate-wires next g e =
     let good = need-none (wiresGood next g) 6 _ (kinds .1) .0 in
     record {
       left = ltb-true (g .left) next (and-left (ltb (g .left) next) _ good);
-      right = ltb-true (g .right) next (and-left (ltb (g .right) next) _ (and-right (ltb (g .left) next) _ good)) }
+      right = ltb-true (g .right) next (and-left (ltb (g .right) next) _ (and-right (ltb (g .left) next) _ good));
+    }
 
 pub gates-wires : (next : ℕ) (gs : List Gate) (i : ℕ) (d : Gate) → gatesCause next gs ≡ 0 → i < length gs → Wires next (getD gs i d)
 unfolding gatesCause
@@ -93,7 +95,7 @@ module _ (N : Numbers ℕ) (count : ℕ) (gates values : List ℕ) where
 
 pub layer-at : (p count : ℕ) (gates values : List ℕ) (i : ℕ) → i < count
     → getD (layerValues (words p) count gates values) i 0
-      ≡ operate (words p) (getD gates (3 * i) 0) (getD values (count + getD gates (3 * i + 1) 0) 0) (getD values (count + getD gates (3 * i + 2) 0) 0)
+    ≡ operate (words p) (getD gates (3 * i) 0) (getD values (count + getD gates (3 * i + 1) 0) 0) (getD values (count + getD gates (3 * i + 2) 0) 0)
 unfolding layerValues gateValue
 layer-at p count gates values i h =
     let none : Gate = gate 0 0 0 in
@@ -117,11 +119,11 @@ fill-step p count gates before values i r h fits e v =
     let layer : List ℕ = layerValues (words p) count gates before in
     let size : length layer ≡ count = length-layer (words p) count gates before in
     let kept : (j : ℕ) → getD values (count + j) 0 ≡ getD before (count + j) 0 =
-      λ j. ap (λ (l : List ℕ). getD l (count + j) 0) e
-        ∙ getD-over-after (take i layer) before (count + j) 0 (omega (arith, length-take-le i layer (omega arith))) in
+    λ j. ap (λ (l : List ℕ). getD l (count + j) 0) e
+    ∙ getD-over-after (take i layer) before (count + j) 0 (omega (arith, length-take-le i layer (omega arith))) in
     let same : r ≡ getD layer i 0 =
-      v ∙ ap₂ (operate (words p) (getD gates (3 * i) 0)) (kept (getD gates (3 * i + 1) 0)) (kept (getD gates (3 * i + 2) 0))
-      ∙ sym (layer-at p count gates before i h) in
+    v ∙ ap₂ (operate (words p) (getD gates (3 * i) 0)) (kept (getD gates (3 * i + 1) 0)) (kept (getD gates (3 * i + 2) 0))
+    ∙ sym (layer-at p count gates before i h) in
     ap₂ (λ (l : List ℕ) (x : ℕ). set l i x) e same ∙ over-next layer before i 0 (omega arith) (omega arith)
 
 -- gates whose wires are below `next` see no more of the values
@@ -133,8 +135,8 @@ values-agree p next (g ∷ gs) v w e same =
     let parts = first-none (gateCause next g) (gatesCause next gs) e in
     let wires = gate-wires next g (parts .0) in
     ap₂ (λ (x : ℕ) (l : List ℕ). x ∷ l)
-      (ap₂ (operate (words p) (g .kind)) (same (g .left) (wires .left)) (same (g .right) (wires .right)))
-      (values-agree p next gs v w (parts .1) same)
+    (ap₂ (operate (words p) (g .kind)) (same (g .left) (wires .left)) (same (g .right) (wires .right)))
+    (values-agree p next gs v w (parts .1) same)
 
 -- the gates of a part that has all their words
 pub gates-part : (n m : ℕ) (ws : List ℕ) → 3 * n ≤ m → gatesOf n (take m ws) ≡ gatesOf n ws

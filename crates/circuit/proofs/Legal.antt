@@ -1,9 +1,9 @@
 -- Laws of legality: a list's words from a place on, a gate by its words, layer by layer.
 -- Assumes nothing.
-use Prim.Native.Nat.{ℕ, zero, suc, _+_, _-_, _*_, _^_, _≤_, _<_}
-use mathlib.Core.Path.{_≡_, refl, sym, ap, ap₂, _∙_}
+use Prim.Native.Nat.{ℕ, suc, _+_, _-_, _*_, _≤_, _<_}
+use mathlib.Core.Path.{_≡_, refl, ap, _∙_}
 use mathlib.Core.Bool.{Bool, true, false, not, _&&_, _||_}
-use mathlib.Core.List.{List, [], _∷_}
+use mathlib.Core.List.{List, _∷_}
 use native.Mathlib.Nat.{add-zero}
 use native.Mathlib.Numerals.{add-one}
 use native.Mathlib.Omega.{arith}
@@ -12,7 +12,7 @@ use lib.ListN.{length, getD, drop, drop-of-length-le}
 use lib.Seq.{drop-cons, drop-drop, getD-drop}
 use borrow.Author.Tests.{lt-ltb, le-ltb, lt-leb, le-leb, eq-eqb, ne-eqb}
 use Rattle.refusal.specs.Order.{need, first}
-use Rattle.circuit.specs.Gate.{Gate, gate}
+use Rattle.circuit.specs.Gate.{gate}
 use Rattle.circuit.specs.Circuit.{gatesOf}
 use Rattle.circuit.specs.Legal.{allBelow, wiresGood, gateCause, gatesCause}
 
@@ -91,8 +91,8 @@ gates-cons n at c =
 
 pub gates-at : (next count i at : ℕ) (c : List ℕ) → i < count
     → gatesCause next (gatesOf (count - i) (drop (at + 3 * i) c))
-      ≡ first (gateCause next (gate (getD c (at + 3 * i) 0) (getD c (at + 3 * i + 1) 0) (getD c (at + 3 * i + 2) 0)))
-        (gatesCause next (gatesOf (count - (i + 1)) (drop (at + 3 * (i + 1)) c)))
+    ≡ first (gateCause next (gate (getD c (at + 3 * i) 0) (getD c (at + 3 * i + 1) 0) (getD c (at + 3 * i + 2) 0)))
+    (gatesCause next (gatesOf (count - (i + 1)) (drop (at + 3 * (i + 1)) c)))
 unfolding gatesCause
 gates-at next count i at c h =
     let more : count - i ≡ suc (count - (i + 1)) = omega arith in

@@ -3,3 +3,4 @@ pub mod Sized
 pub mod Loading
 pub mod Filling
 pub mod Evaluating
+pub mod Answering

@@ -10,12 +10,12 @@ use lib.ListN.{length, take, drop, length-drop, length-take}
 use borrow.Author.Tests.{lt-leb, le-leb, eq-eqb, ne-eqb, leb-true, eqb-true}
 use Rattle.refusal.specs.Number.{numberOf}
 use Rattle.refusal.specs.declared.Cause.{Cause}
-use Rattle.refusal.proofs.Order.{need-none, refused-first}
+use Rattle.refusal.proofs.Order.{need-none, first-none, refused-first}
 use Rattle.primes.specs.Prime.{isListed}
 use Rattle.circuit.specs.Limits.{maxDepth, maxExponent}
 use Rattle.circuit.specs.Circuit.{primeOf, depth, exponents, gateLayers, wordCount, outputExponent, gateCount, inputCount}
 use Rattle.circuit.specs.Legal.{allBelow, depthGood, exponentsGood, layersCause, loadAnswer, inputCause, listsCause}
-use Rattle.circuit.specs.Sized.{Exponents, Sized, LegalCircuit}
+use Rattle.circuit.specs.Sized.{Exponents, LegalCircuit}
 
 -- a test that the code negates
 pub not-true : {b : Bool} → not b ≡ true → b ≡ false
@@ -72,7 +72,7 @@ module _ (c : List ℕ) where
         unfolding exponents
         load-ends h =
             let short : eqb (length (exponents c)) (depth c) ≡ false =
-              ne-eqb (length (exponents c)) (depth c) (λ e. omega (arith, length-take (depth c) (drop 2 c), length-drop 2 c, e, h)) in
+            ne-eqb (length (exponents c)) (depth c) (λ e. omega (arith, length-take (depth c) (drop 2 c), length-drop 2 c, e, h)) in
             load-exponents (ap (λ (x : Bool). x && allBelow (maxExponent + 1) (exponents c)) short)
 
         pub load-wide : allBelow (maxExponent + 1) (exponents c) ≡ false → loadAnswer c ≡ 4
@@ -130,11 +130,14 @@ legal-circuit c e =
           is-depth = refl;
           shallow = leb-true (depth c) maxDepth (range .1);
           long = enough c (leb-true 2 (length c) (two .0)) (eqb-true (length (exponents c)) (depth c) (exps .0));
-          small = exps .1 };
-        counted = eqb-true (length c) (wordCount c) (full .0) };
+          small = exps .1;
+        };
+        counted = eqb-true (length c) (wordCount c) (full .0);
+      };
       listed = listed .0;
       some = leb-true 1 (depth c) (range .0);
-      wired = full .1 }
+      wired = full .1;
+    }
 
 -- THE LISTS OF AN OPERATION, refusal by refusal
 module _ (c input : List ℕ) (legal : loadAnswer c ≡ 0) where
@@ -153,3 +156,17 @@ module _ (c input : List ℕ) (legal : loadAnswer c ≡ 0) where
 pub lists-load : (c input : List ℕ) (cause : Cause) → numberOf cause ≡ loadAnswer c → listsCause c input ≡ numberOf cause
 unfolding listsCause
 lists-load c input cause e = refused-first cause (loadAnswer c) (inputCause c input) e
+
+-- no refusal of 1 to 9
+pub record LegalLists (c input : List ℕ) : Type 0 where
+  pub circuit : LegalCircuit c
+  pub sized : length input ≡ inputCount c
+  pub residues : allBelow (primeOf c) input ≡ true
+
+pub legal-lists : (c input : List ℕ) → listsCause c input ≡ 0 → LegalLists c input
+unfolding listsCause inputCause
+legal-lists c input e =
+    let parts = first-none (loadAnswer c) (inputCause c input) e in
+    let count = need-none (eqb (length input) (inputCount c)) 7 _ (parts .1) in
+    let word = need-none (allBelow (primeOf c) input) 8 _ (count .1) in
+    record { circuit = legal-circuit c (parts .0); sized = eqb-true (length input) (inputCount c) (count .0); residues = word .0 }

@@ -1,14 +1,14 @@
 -- Laws of a list's exponents, and of its layers from layer i on.
 -- Assumes nothing.
 use Prim.Native.Nat.{ℕ, zero, suc, _+_, _-_, _*_, _^_, _≤_, _<_}
-use mathlib.Core.Path.{_≡_, refl, sym, ap, ap₂, _∙_, subst}
+use mathlib.Core.Path.{_≡_, refl, sym, ap, _∙_, subst}
 use mathlib.Core.Bool.{Bool, true, false, _&&_, false≢true}
 use mathlib.Core.List.{List, [], _∷_}
 use native.Mathlib.Nat.{pow-le-pow-right, le-refl}
 use native.Mathlib.Numerals.{add-one}
 use native.Mathlib.Omega.{arith}
 use lib.Dec.{ltb, lit<}
-use lib.ListN.{length, getD, take, drop, length-drop, drop-of-length-le}
+use lib.ListN.{length, getD, drop, length-drop, drop-of-length-le}
 use lib.Seq.{length-take-le, drop-cons, drop-drop, getD-take, getD-drop}
 use borrow.Author.Tests.{ltb-true}
 use Rattle.refusal.specs.Order.{first}
@@ -102,8 +102,8 @@ module _ (c : List ℕ) (d : ℕ) (h : Exponents c d) where
   -- layer i and those after it, in a walk's terms: its `count` gates stand at `at`, above a layer of `next` gates
   pub layers-at : (k i at count next : ℕ) → i < d → count ≡ 2 ^ k → next ≡ 2 ^ exponentAt c (i + 1)
       → layersCause (drop i (exponents c)) (layersOf k (drop i (exponents c)) (drop at c))
-        ≡ first (gatesCause next (gatesOf count (drop at c)))
-          (layersCause (drop (i + 1) (exponents c)) (layersOf (exponentAt c (i + 1)) (drop (i + 1) (exponents c)) (drop (at + 3 * count) c)))
+      ≡ first (gatesCause next (gatesOf count (drop at c)))
+      (layersCause (drop (i + 1) (exponents c)) (layersOf (exponentAt c (i + 1)) (drop (i + 1) (exponents c)) (drop (at + 3 * count) c)))
   unfolding layersCause layersOf
   layers-at k i at count next l e n = rw (exponents-at i l, e, n, drop-drop (3 * 2 ^ k) at c)
 

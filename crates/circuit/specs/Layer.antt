@@ -2,12 +2,13 @@
 -- Assumes nothing.
 use Prim.Native.Nat.{ℕ, _+_, _*_, _≤_}
 use mathlib.Core.Path.{_≡_}
-use mathlib.Core.List.{List, map}
+use mathlib.Core.List.{List, map, flatten}
 use lib.ListN.{length, take, drop}
 use Rattle.algebra.specs.Numbers.{Numbers}
 use Rattle.circuit.specs.Limits.{maxValues}
 use Rattle.circuit.specs.Gate.{gateValue}
-use Rattle.circuit.specs.Circuit.{gatesOf}
+use Rattle.circuit.specs.Circuit.{gatesOf, valueCount}
+use Rattle.circuit.specs.Evaluate.{layers}
 use Rattle.circuit.specs.Legal.{gatesCause}
 
 -- the values of the first `count` gates of a list of words, where the next layer's stand behind `count` places
@@ -24,3 +25,8 @@ pub record Fillable (gates : List ℕ) (count next : ℕ) (values : List ℕ) : 
 pub record Placed (words : List ℕ) (at : ℕ) (values : List ℕ) : Type 0 where
   pub size : length values ≡ maxValues
   pub there : take (length words) (drop at values) ≡ words
+
+-- a working array with the values of all layers at its front
+pub record AllValues (c input values : List ℕ) : Type 0 where
+  pub size : length values ≡ maxValues
+  pub holds : take (valueCount c) values ≡ flatten (layers c input)

@@ -3,5 +3,6 @@ pub mod Gate
 pub mod Circuit
 pub mod Legal
 pub mod Evaluate
+pub mod Answer
 pub mod Layer
 pub mod Sized

@@ -1,19 +1,19 @@
 // Circuits: legality and evaluation.
 use field::Field;
-use refusal::{Cause, Checked};
+use refusal::Cause;
+use refusal::Checked;
 ghost use mathlib.Core.Path.{_≡_};
 ghost use Prim.Native.Nat.{_+_, _*_, _^_, _≤_};
-ghost use mathlib.Core.List.{flatten};
-ghost use lib.ListN.{length, take, drop};
+ghost use lib.ListN.{length, drop};
 ghost use Rattle.lists.specs.Buffer.{over};
 ghost use Rattle.refusal.specs.Number.{causeOf};
 ghost use Rattle.field.specs.Modulus.{numbers};
 ghost use Rattle.circuit.specs.Limits.{maxExponent, maxValues};
 ghost use Rattle.circuit.specs.Gate.{gate, operate};
-ghost use Rattle.circuit.specs.Circuit.{exponents, exponentAt, outputExponent, gatesOf, gateCount, gateLayers, inputCount, valueCount};
+ghost use Rattle.circuit.specs.Circuit.{exponents, exponentAt, outputExponent, gatesOf, gateCount, gateLayers, inputCount};
 ghost use Rattle.circuit.specs.Legal.{allBelow, gateCause, gatesCause, layersCause, loadAnswer, inputCause, listsCause};
-ghost use Rattle.circuit.specs.Evaluate.{layers};
-ghost use Rattle.circuit.specs.Layer.{layerValues, Fillable, Placed};
+ghost use Rattle.circuit.specs.Answer.{Evaluates};
+ghost use Rattle.circuit.specs.Layer.{layerValues, AllValues, Fillable, Placed};
 ghost use Rattle.circuit.specs.Sized.{Exponents, LayerOf, LegalCircuit, Sized};
 
 pub const MAX_DEPTH: u32 = 16;
@@ -200,7 +200,7 @@ fn fill_layer(f: Field, gates: &[u32], count: usize, next: usize, values: &mut [
 }
 
 // Writes `words` over the front of a buffer.
-pub fn copy_front(buffer: &mut [u32], words: &[u32])
+fn copy_front(buffer: &mut [u32], words: &[u32])
     requires { ⌜ length (now words) ≤ length (now buffer) ⌝ }
     ensures { λ _. ⌜ now (buffer .exit) ≡ over (now (words .entry)) (now (buffer .entry)) ⌝ }
 {
@@ -231,9 +231,9 @@ fn place_input(input: &[u32], at: usize) -> [u32; MAX_VALUES]
 }
 
 // The values of all layers, the output's first, in a working array that is filled from the input up.
-pub fn all_values(circuit: &[u32], input: &[u32]) -> [u32; MAX_VALUES]
+fn all_values(circuit: &[u32], input: &[u32]) -> [u32; MAX_VALUES]
     requires { ⌜ LegalCircuit (now circuit) × (length (now input) ≡ inputCount (now circuit)) ⌝ }
-    ensures { λ r. ⌜ take (valueCount (now (circuit .entry))) r ≡ flatten (layers (now (circuit .entry)) (now (input .entry))) ⌝ }
+    ensures { λ r. ⌜ AllValues (now (circuit .entry)) (now (input .entry)) r ⌝ }
 {
     let f = Field::of(circuit[0]);
     let depth = circuit[1] as usize;
@@ -250,4 +250,27 @@ pub fn all_values(circuit: &[u32], input: &[u32]) -> [u32; MAX_VALUES]
         next = count;
     }
     values
+}
+
+// What an evaluation answers.
+pub enum Evaluated {
+    Output(u32),
+    Refused(Cause),
+}
+
+// Evaluate: the output, with the values of layers 0 to D at the front of the buffer, or the first refusal of 1 to 10.
+pub fn evaluate(circuit: &[u32], input: &[u32], buffer: &mut [u32]) -> Evaluated
+    ensures { λ r. ⌜ Evaluates (now (circuit .entry)) (now (input .entry)) (now (buffer .entry)) r (now (buffer .exit)) ⌝ }
+{
+    let checked = check_lists(circuit, input);
+    if let Checked::Refused(cause) = checked {
+        return Evaluated::Refused(cause);
+    }
+    let total = gate_count(circuit, circuit[1] as usize) + input.len();
+    if buffer.len() < total {
+        return Evaluated::Refused(Cause::BufferShort);
+    }
+    let values = all_values(circuit, input);
+    copy_front(buffer, &values[..total]);
+    Evaluated::Output(values[0])
 }

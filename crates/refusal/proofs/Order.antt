@@ -32,6 +32,14 @@ numbered InputDiffers rest = refl
 numbered RecordUnfit rest = refl
 numbered BytesUnfit rest = refl
 
+-- a cause's number as a successor, for what goes by cases on it
+pub numbered-suc : (cause : Cause) → (n : ℕ) × (numberOf cause ≡ suc n)
+numbered-suc cause = go (numberOf cause) refl
+  where
+    go : (n : ℕ) → numberOf cause ≡ n → (m : ℕ) × (numberOf cause ≡ suc m)
+    go zero e = absurd (suc-ne-zero 0 (ap (λ (k : ℕ). first k 1) (sym e) ∙ numbered cause 1 ∙ e))
+    go (suc n) e = (n, e)
+
 -- a refusal is passed on
 pub refused-first : (cause : Cause) (n rest : ℕ) → numberOf cause ≡ n → first n rest ≡ numberOf cause
 refused-first cause n rest e = ap (λ (k : ℕ). first k rest) (sym e) ∙ numbered cause rest

@@ -1,3 +1,5 @@
+-- `all_below` meets its contract: what is left to look at from word i on decides as the whole list does.
+-- Assumes nothing.
 use Prim.Native.Nat.{_≤_, _-_}
 use mathlib.Core.Path.{_≡_, sym, _∙_}
 use borrow.Author.Needs.{needs}
@@ -6,8 +8,6 @@ use Rattle.circuit.specs.Legal.{allBelow}
 use Rattle.circuit.proofs.Legal.{below-fails, below-goes-on, below-ends}
 use Rattle.circuit.proofs.all_below.Statement.{statement}
 use Rattle.circuit.proofs.all_below.Tie as tie
-use Rattle.circuit.proofs.all_below.Reads as reads
-use Rattle.circuit.proofs.all_below.Lts as lts
 
 abbrev Inv-loop : tie.InvT-loop
 Inv-loop words p i₀ i-end i = (i ≤ length words) × (i-end ≡ length words) × (allBelow p words ≡ allBelow p (drop i words))
@@ -15,37 +15,29 @@ Inv-loop words p i₀ i-end i = (i ≤ length words) × (i-end ≡ length words)
 abbrev μ-loop : tie.MeasureT-loop
 μ-loop words p i₀ i-end i = length words - i
 
--- src/lib.rt:43:5
 loop-holds : tie.Need-loop-holds Inv-loop μ-loop
 loop-holds c = search needs
 
--- src/lib.rt:44:17
 mul-if1 : tie.Need-mul-if1 Inv-loop μ-loop
 mul-if1 c = search needs
 
--- src/lib.rt:44:17
 shared-slice-read-if1 : tie.Need-shared-slice-read-if1 Inv-loop μ-loop
 shared-slice-read-if1 c = search needs
 
--- src/lib.rt:45:13
 returns : tie.Need-returns Inv-loop μ-loop
 returns c = let at = c .before .before .before in sym (at .loop .inv .2 ∙ below-fails (at .before .args .p) (at .before .args .words .now) (at .loop .i) (search needs) (c .if1 .taken))
 
--- src/lib.rt:43:9
 add-i : tie.Need-add-i Inv-loop μ-loop
 add-i c = search needs
 
--- src/lib.rt:43:5
 loop-less : tie.Need-loop-less Inv-loop μ-loop
 loop-less c = search needs
 
--- src/lib.rt:43:5
 loop-again : tie.Need-loop-again Inv-loop μ-loop
 loop-again c =
     let at = c .before .before .before in
     (search needs, search needs, at .loop .inv .2 ∙ below-goes-on (at .before .args .p) (at .before .args .words .now) (at .loop .i) (search needs) (c .if1 .left))
 
--- src/lib.rt:40:1
 returns-2 : tie.Need-returns-2 Inv-loop μ-loop
 returns-2 c = let at = c .before in sym (at .loop .inv .2 ∙ below-ends (at .before .args .p) (at .before .args .words .now) (at .loop .i) (search needs))
 

@@ -1,18 +1,13 @@
-use Prim.Native.Nat.{ℕ, _≤_, _-_, _+_, _*_, _^_, _<_}
-use mathlib.Core.Path.{_≡_, sym, ap, ap₂, _∙_, refl}
+-- `all_values` meets its contract: before turn i layers D - i to D stand in their place.
+-- Assumes nothing.
+use Prim.Native.Nat.{_≤_, _-_, _^_}
+use mathlib.Core.Path.{_≡_}
 use borrow.Author.Needs.{needs}
 use native.Mathlib.Omega.{arith}
 use Rattle.circuit.specs.Circuit.{exponentAt}
 use Rattle.circuit.proofs.Evaluating.{Filled, input-fits, input-width, filled-start, turn-sizes, turn-width, turn-fillable, turn-filled, filled-all, prime-modulus}
 use Rattle.circuit.proofs.all_values.Statement.{statement}
 use Rattle.circuit.proofs.all_values.Tie as tie
-use Rattle.circuit.proofs.all_values.Reads as reads
-use Rattle.circuit.proofs.all_values.Lts as lts
-use Rattle.circuit.proofs.fill_layer.Reads as fill-layer-reads
-use Rattle.circuit.proofs.gate_count.Reads as gate-count-reads
-use Rattle.circuit.proofs.layer_width.Reads as layer-width-reads
-use Rattle.circuit.proofs.place_input.Reads as place-input-reads
-use Rattle.field.proofs.Field.of.Reads as of-reads
 
 abbrev Inv-loop : tie.InvT-loop
 Inv-loop circuit input f depth start at₀ values₀ next₀ i₀ at values next i =
@@ -21,31 +16,24 @@ Inv-loop circuit input f depth start at₀ values₀ next₀ i₀ at values next
 abbrev μ-loop : tie.MeasureT-loop
 μ-loop circuit input f depth start at₀ values₀ next₀ i₀ at values next i = depth - i
 
--- src/lib.rt:238:23
 shared-slice-read-of : tie.Need-shared-slice-read-of Inv-loop μ-loop
 shared-slice-read-of c = search needs
 
--- src/lib.rt:238:9
 of-requires : tie.Need-of-requires Inv-loop μ-loop
 of-requires c κs = search needs
 
--- src/lib.rt:239:17
 shared-slice-read-depth : tie.Need-shared-slice-read-depth Inv-loop μ-loop
 shared-slice-read-depth c = search needs
 
--- src/lib.rt:239:17
 cast-depth : tie.Need-cast-depth Inv-loop μ-loop
 cast-depth c = search needs
 
--- src/lib.rt:240:17
 add-start : tie.Need-add-start Inv-loop μ-loop
 add-start c = search needs
 
--- src/lib.rt:241:9
 gate-count-requires : tie.Need-gate-count-requires Inv-loop μ-loop
 gate-count-requires c κs = search needs
 
--- src/lib.rt:242:22
 place-input-requires : tie.Need-place-input-requires Inv-loop μ-loop
 place-input-requires c κs =
     let start = c .before .before .before .before .before .before in
@@ -55,7 +43,6 @@ place-input-requires c κs =
     let sized = start .pre .1 in
     input-fits l v h sized _ (c .gate-count .ensures)
 
--- src/lib.rt:244:5
 loop-holds : tie.Need-loop-holds Inv-loop μ-loop
 loop-holds c =
     let start = c .before .before .before .before .before .before .before in
@@ -65,19 +52,15 @@ loop-holds c =
     let sized = start .pre .1 in
     (search needs, input-width l v h sized, filled-start l v h sized _ _ (c .before .gate-count .ensures) (c .place-input .ensures))
 
--- src/lib.rt:245:42
 sub-layer-width : tie.Need-sub-layer-width Inv-loop μ-loop
 sub-layer-width c = search needs
 
--- src/lib.rt:245:42
 sub-layer-width-2 : tie.Need-sub-layer-width-2 Inv-loop μ-loop
 sub-layer-width-2 c = search needs
 
--- src/lib.rt:245:13
 layer-width-requires : tie.Need-layer-width-requires Inv-loop μ-loop
 layer-width-requires c κs = search needs
 
--- src/lib.rt:246:9
 sub-at : tie.Need-sub-at Inv-loop μ-loop
 sub-at c =
     let at = c .before .before in
@@ -91,7 +74,6 @@ sub-at c =
     let sizes = turn-sizes l v h sized (t .i) (t .at) (w .result) (t .next) (t .values) (search needs) (t .inv .2) (w .ensures) (t .inv .1) in
     omega arith
 
--- src/lib.rt:247:28
 mul-from : tie.Need-mul-from Inv-loop μ-loop
 mul-from c =
     let at = c .before .before in
@@ -105,7 +87,6 @@ mul-from c =
     let sizes = turn-sizes l v h sized (t .i) (t .at) (w .result) (t .next) (t .values) (search needs) (t .inv .2) (w .ensures) (t .inv .1) in
     omega arith
 
--- src/lib.rt:247:20
 add-from : tie.Need-add-from Inv-loop μ-loop
 add-from c =
     let at = c .before .before in
@@ -119,7 +100,6 @@ add-from c =
     let sizes = turn-sizes l v h sized (t .i) (t .at) (w .result) (t .next) (t .values) (search needs) (t .inv .2) (w .ensures) (t .inv .1) in
     omega arith
 
--- src/lib.rt:248:25
 mul-to : tie.Need-mul-to Inv-loop μ-loop
 mul-to c =
     let at = c .before .before in
@@ -133,7 +113,6 @@ mul-to c =
     let sizes = turn-sizes l v h sized (t .i) (t .at) (w .result) (t .next) (t .values) (search needs) (t .inv .2) (w .ensures) (t .inv .1) in
     omega arith
 
--- src/lib.rt:248:18
 add-to : tie.Need-add-to Inv-loop μ-loop
 add-to c =
     let at = c .before .before in
@@ -147,7 +126,6 @@ add-to c =
     let sizes = turn-sizes l v h sized (t .i) (t .at) (w .result) (t .next) (t .values) (search needs) (t .inv .2) (w .ensures) (t .inv .1) in
     omega arith
 
--- src/lib.rt:249:23
 mul-fill-layer : tie.Need-mul-fill-layer Inv-loop μ-loop
 mul-fill-layer c =
     let at = c .before .before in
@@ -161,15 +139,12 @@ mul-fill-layer c =
     let sizes = turn-sizes l v h sized (t .i) (t .at) (w .result) (t .next) (t .values) (search needs) (t .inv .2) (w .ensures) (t .inv .1) in
     omega arith
 
--- src/lib.rt:249:23
 sub-fill-layer : tie.Need-sub-fill-layer Inv-loop μ-loop
 sub-fill-layer c = search needs
 
--- src/lib.rt:249:23
 part-fill-layer-start : tie.Need-part-fill-layer-start Inv-loop μ-loop
 part-fill-layer-start c = search needs
 
--- src/lib.rt:249:23
 part-fill-layer-end : tie.Need-part-fill-layer-end Inv-loop μ-loop
 part-fill-layer-end c =
     let at = c .before .before in
@@ -183,7 +158,6 @@ part-fill-layer-end c =
     let sizes = turn-sizes l v h sized (t .i) (t .at) (w .result) (t .next) (t .values) (search needs) (t .inv .2) (w .ensures) (t .inv .1) in
     omega arith
 
--- src/lib.rt:249:56
 mul-values : tie.Need-mul-values Inv-loop μ-loop
 mul-values c =
     let at = c .before .before .before in
@@ -197,7 +171,6 @@ mul-values c =
     let sizes = turn-sizes l v h sized (t .i) (t .at) (w .result) (t .next) (t .values) (search needs) (t .inv .2) (w .ensures) (t .inv .1) in
     omega arith
 
--- src/lib.rt:249:56
 sub-fill-layer-2 : tie.Need-sub-fill-layer-2 Inv-loop μ-loop
 sub-fill-layer-2 c =
     let at = c .before .before .before in
@@ -211,7 +184,6 @@ sub-fill-layer-2 c =
     let sizes = turn-sizes l v h sized (t .i) (t .at) (w .result) (t .next) (t .values) (search needs) (t .inv .2) (w .ensures) (t .inv .1) in
     omega arith
 
--- src/lib.rt:249:56
 part-values-start : tie.Need-part-values-start Inv-loop μ-loop
 part-values-start c =
     let at = c .before .before .before in
@@ -225,11 +197,9 @@ part-values-start c =
     let sizes = turn-sizes l v h sized (t .i) (t .at) (w .result) (t .next) (t .values) (search needs) (t .inv .2) (w .ensures) (t .inv .1) in
     omega arith
 
--- src/lib.rt:249:56
 part-values-end : tie.Need-part-values-end Inv-loop μ-loop
 part-values-end c = search needs
 
--- src/lib.rt:249:9
 fill-layer-requires : tie.Need-fill-layer-requires Inv-loop μ-loop
 fill-layer-requires c κs =
     let at = c .before .before .before .before in
@@ -242,15 +212,12 @@ fill-layer-requires c κs =
     let t = at .loop in
     turn-fillable l v h sized (t .i) (t .at) (w .result) (t .next) (t .values) (search needs) (t .inv .2) (w .ensures) (t .inv .1)
 
--- src/lib.rt:244:9
 add-i : tie.Need-add-i Inv-loop μ-loop
 add-i c = search needs
 
--- src/lib.rt:244:5
 loop-less : tie.Need-loop-less Inv-loop μ-loop
 loop-less c = search needs
 
--- src/lib.rt:244:5
 loop-again : tie.Need-loop-again Inv-loop μ-loop
 loop-again c =
     let at = c .before .before .before .before .before .before in
@@ -260,11 +227,12 @@ loop-again c =
     let h = start .pre .0 in
     let sized = start .pre .1 in
     let w = c .before .before .before .before .layer-width in
-    let t = at .loop in
-    (search needs, turn-width l v h sized (t .i) (t .at) (w .result) (t .next) (t .values) (search needs) (t .inv .2) (w .ensures) (t .inv .1),
-     turn-filled l v h sized (t .i) (t .at) (w .result) (t .next) (t .values) (search needs) (t .inv .2) (w .ensures) (t .inv .1) _ _ (prime-modulus l h _ (at .before .before .before .before .of .ensures)) (c .before .fill-layer .ensures))
+    let t = at .loop in (
+      search needs,
+      turn-width l v h sized (t .i) (t .at) (w .result) (t .next) (t .values) (search needs) (t .inv .2) (w .ensures) (t .inv .1),
+      turn-filled l v h sized (t .i) (t .at) (w .result) (t .next) (t .values) (search needs) (t .inv .2) (w .ensures) (t .inv .1) _ _ (prime-modulus l h _ (at .before .before .before .before .of .ensures)) (c .before .fill-layer .ensures),
+    )
 
--- src/lib.rt:234:1
 returns : tie.Need-returns Inv-loop μ-loop
 returns c =
     let start = c .before .before .before .before .before .before .before .before .before in

@@ -1,3 +1,5 @@
+-- `check_gate` meets its contract: each return is one case of `gateCause`.
+-- Assumes nothing.
 use mathlib.Core.Path.{sym}
 use Rattle.circuit.proofs.Legal.{gate-kind, gate-left, gate-right, gate-order, gate-used, gate-wired-empty, gate-empty}
 use Rattle.circuit.proofs.check_gate.Statement.{statement}

@@ -1,19 +1,17 @@
+-- `check_gates` meets its contract: what is left from gate i on decides as all the gates do.
+-- Assumes nothing.
 use Prim.Native.Nat.{ℕ, _≤_, _-_, _+_, _*_}
-use mathlib.Core.Path.{_≡_, sym, ap, ap₂, _∙_, refl}
+use mathlib.Core.Path.{_≡_, sym, ap, ap₂, _∙_}
 use native.Mathlib.Nat.{sub-zero, add-zero}
 use Rattle.refusal.specs.Number.{causeOf}
 use borrow.Author.Needs.{needs}
-use native.Mathlib.Omega.{arith}
-use lib.ListN.{length, drop}
+use lib.ListN.{drop}
 use Rattle.refusal.proofs.Order.{refused-first, legal-first}
 use Rattle.circuit.specs.Circuit.{gatesOf}
 use Rattle.circuit.specs.Legal.{gatesCause}
 use Rattle.circuit.proofs.Legal.{gates-at, gates-end}
 use Rattle.circuit.proofs.check_gates.Statement.{statement}
 use Rattle.circuit.proofs.check_gates.Tie as tie
-use Rattle.circuit.proofs.check_gates.Reads as reads
-use Rattle.circuit.proofs.check_gates.Lts as lts
-use Rattle.circuit.proofs.check_gate.Reads as check-gate-reads
 
 abbrev Inv-loop : tie.InvT-loop
 Inv-loop circuit at count next i₀ i =
@@ -22,90 +20,73 @@ Inv-loop circuit at count next i₀ i =
 abbrev μ-loop : tie.MeasureT-loop
 μ-loop circuit at count next i₀ i = count - i
 
--- src/lib.rt:69:5
 loop-holds : tie.Need-loop-holds Inv-loop μ-loop
 loop-holds c =
     let a = c .before .args in
     (search needs, ap₂ (λ (n k : ℕ). gatesCause (a .next) (gatesOf n (drop k (a .circuit .now)))) (sym (sub-zero (a .count))) (sym (add-zero (a .at))))
 
--- src/lib.rt:70:26
 mul-place : tie.Need-mul-place Inv-loop μ-loop
 mul-place c = search needs
 
--- src/lib.rt:70:21
 add-place : tie.Need-add-place Inv-loop μ-loop
 add-place c = search needs
 
--- src/lib.rt:71:34
 mul-check-gate : tie.Need-mul-check-gate Inv-loop μ-loop
 mul-check-gate c = search needs
 
--- src/lib.rt:71:34
 shared-slice-read-check-gate : tie.Need-shared-slice-read-check-gate Inv-loop μ-loop
 shared-slice-read-check-gate c = search needs
 
--- src/lib.rt:71:58
 add-check-gate : tie.Need-add-check-gate Inv-loop μ-loop
 add-check-gate c = search needs
 
--- src/lib.rt:71:50
 mul-check-gate-2 : tie.Need-mul-check-gate-2 Inv-loop μ-loop
 mul-check-gate-2 c = search needs
 
--- src/lib.rt:71:50
 shared-slice-read-check-gate-2 : tie.Need-shared-slice-read-check-gate-2 Inv-loop μ-loop
 shared-slice-read-check-gate-2 c = search needs
 
--- src/lib.rt:71:78
 add-check-gate-2 : tie.Need-add-check-gate-2 Inv-loop μ-loop
 add-check-gate-2 c = search needs
 
--- src/lib.rt:71:70
 mul-check-gate-3 : tie.Need-mul-check-gate-3 Inv-loop μ-loop
 mul-check-gate-3 c = search needs
 
--- src/lib.rt:71:70
 shared-slice-read-check-gate-3 : tie.Need-shared-slice-read-check-gate-3 Inv-loop μ-loop
 shared-slice-read-check-gate-3 c = search needs
 
--- src/lib.rt:71:13
 check-gate-requires : tie.Need-check-gate-requires Inv-loop μ-loop
 check-gate-requires c κs = search needs
 
--- src/lib.rt:72:33
 enum-known-checked : tie.Need-enum-known-checked Inv-loop μ-loop
 enum-known-checked c = search needs
 
--- src/lib.rt:73:13
 returns : tie.Need-returns Inv-loop μ-loop
 returns c =
     let at = c .before .before .before .before .before .before .before .before in
     let a = at .before .before .args in
     let checked = c .before .checked .given in
     sym (at .loop .inv .1 ∙ gates-at (a .next) (a .count) (at .loop .i) (a .at) (a .circuit .now) (search needs)
-      ∙ refused-first (checked .0 .0) _ _ (sym (ap causeOf (checked .1)) ∙ c .before .before .before .check-gate .ensures))
+    ∙ refused-first (checked .0 .0) _ _ (sym (ap causeOf (checked .1)) ∙ c .before .before .before .check-gate .ensures))
 
 enum-told : tie.Need-enum-told Inv-loop μ-loop
 enum-told c = search needs
 
--- src/lib.rt:69:9
 add-i : tie.Need-add-i Inv-loop μ-loop
 add-i c = search needs
 
--- src/lib.rt:69:5
 loop-less : tie.Need-loop-less Inv-loop μ-loop
 loop-less c = search needs
 
--- src/lib.rt:69:5
 loop-again : tie.Need-loop-again Inv-loop μ-loop
 loop-again c =
     let at = c .before .before .before .before .before .before .before in
-    let a = at .before .before .args in
-    (search needs,
-     at .loop .inv .1 ∙ gates-at (a .next) (a .count) (at .loop .i) (a .at) (a .circuit .now) (search needs)
-     ∙ legal-first _ _ (sym (ap causeOf (c .enum-told .given .1)) ∙ c .before .before .check-gate .ensures))
+    let a = at .before .before .args in (
+      search needs,
+      at .loop .inv .1 ∙ gates-at (a .next) (a .count) (at .loop .i) (a .at) (a .circuit .now) (search needs)
+          ∙ legal-first _ _ (sym (ap causeOf (c .enum-told .given .1)) ∙ c .before .before .check-gate .ensures),
+    )
 
--- src/lib.rt:65:1
 returns-2 : tie.Need-returns-2 Inv-loop μ-loop
 returns-2 c =
     let a = c .before .before .before .args in

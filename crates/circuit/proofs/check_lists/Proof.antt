@@ -1,3 +1,5 @@
+-- `check_lists` meets its contract: each return is one case of `listsCause`.
+-- Assumes nothing.
 use mathlib.Core.Path.{sym, ap, _∙_}
 use native.Mathlib.Omega.{arith}
 use Rattle.refusal.specs.Number.{causeOf}
@@ -5,21 +7,13 @@ use Rattle.circuit.proofs.Loading.{not-true, not-false, legal-circuit, 
 use borrow.Author.Needs.{needs}
 use Rattle.circuit.proofs.check_lists.Statement.{statement}
 use Rattle.circuit.proofs.check_lists.Tie as tie
-use Rattle.circuit.proofs.check_lists.Reads as reads
-use Rattle.circuit.proofs.check_lists.Lts as lts
-use Rattle.circuit.proofs.all_below.Reads as all-below-reads
-use Rattle.circuit.proofs.input_count.Reads as input-count-reads
-use Rattle.circuit.proofs.load.Reads as load-reads
 
--- src/lib.rt:157:9
 load-requires : tie.Need-load-requires
 load-requires c κs = search needs
 
--- src/lib.rt:158:29
 enum-known-loaded : tie.Need-enum-known-loaded
 enum-known-loaded c = search needs
 
--- src/lib.rt:159:9
 returns : tie.Need-returns
 returns c =
     let at = c .before .before .before in
@@ -29,7 +23,6 @@ returns c =
 enum-told : tie.Need-enum-told
 enum-told c = search needs
 
--- src/lib.rt:161:23
 input-count-requires : tie.Need-input-count-requires
 input-count-requires c κs =
     let told = c in
@@ -38,7 +31,6 @@ input-count-requires c κs =
     let legal = sym (at .load .ensures) ∙ ap causeOf (told .enum-told .given .1) in
     legal-circuit (a .circuit .now) legal
 
--- src/lib.rt:162:9
 returns-2 : tie.Need-returns-2
 returns-2 c =
     let told = c .before .before in
@@ -47,7 +39,6 @@ returns-2 c =
     let legal = sym (at .load .ensures) ∙ ap causeOf (told .enum-told .given .1) in
     sym (lists-count (a .circuit .now) (a .input .now) legal (λ e. c .if1 .taken (e ∙ sym (c .before .input-count .ensures))))
 
--- src/lib.rt:164:26
 shared-slice-read-all-below : tie.Need-shared-slice-read-all-below
 shared-slice-read-all-below c =
     let told = c .before .before .before in
@@ -56,11 +47,9 @@ shared-slice-read-all-below c =
     let legal = sym (at .load .ensures) ∙ ap causeOf (told .enum-told .given .1) in
     omega (arith, legal-circuit (a .circuit .now) legal .sized .headed .long)
 
--- src/lib.rt:164:9
 all-below-requires : tie.Need-all-below-requires
 all-below-requires c κs = search needs
 
--- src/lib.rt:165:9
 returns-3 : tie.Need-returns-3
 returns-3 c =
     let e1 = c .before .before .before in
@@ -71,7 +60,6 @@ returns-3 c =
     let count = e1 .if1 .left ∙ e1 .before .input-count .ensures in
     sym (lists-word (a .circuit .now) (a .input .now) legal count (sym (c .before .all-below .ensures) ∙ not-true (c .if2 .taken)))
 
--- src/lib.rt:154:1
 returns-4 : tie.Need-returns-4
 returns-4 c =
     let e1 = c .before .before .before in

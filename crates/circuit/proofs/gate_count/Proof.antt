@@ -1,15 +1,14 @@
-use Prim.Native.Nat.{ℕ, _≤_, _-_, _+_, _*_, _^_}
-use mathlib.Core.Path.{_≡_, sym, ap, ap₂, _∙_, refl}
+-- `gate_count` meets its contract: the gates counted and those from layer i on are all the gates.
+-- Assumes nothing.
+use Prim.Native.Nat.{_≤_, _-_, _+_, _*_, _^_}
+use mathlib.Core.Path.{_≡_}
 use borrow.Author.Needs.{needs}
 use native.Mathlib.Omega.{arith}
-use lib.ListN.{length, drop}
+use lib.ListN.{drop}
 use Rattle.circuit.specs.Circuit.{exponents, exponentAt, outputExponent, gateCount}
 use Rattle.circuit.proofs.Sized.{width-at, width-small, count-at, count-end}
 use Rattle.circuit.proofs.gate_count.Statement.{statement}
 use Rattle.circuit.proofs.gate_count.Tie as tie
-use Rattle.circuit.proofs.gate_count.Reads as reads
-use Rattle.circuit.proofs.gate_count.Lts as lts
-use Rattle.circuit.proofs.width.Reads as width-reads
 
 abbrev Inv-loop : tie.InvT-loop
 Inv-loop circuit depth total₀ count₀ i₀ total count i =
@@ -19,53 +18,44 @@ Inv-loop circuit depth total₀ count₀ i₀ total count i =
 abbrev μ-loop : tie.MeasureT-loop
 μ-loop circuit depth total₀ count₀ i₀ total count i = depth - i
 
--- src/lib.rt:106:5
 loop-holds : tie.Need-loop-holds Inv-loop μ-loop
 loop-holds c = search needs
 
--- src/lib.rt:107:9
 add-total : tie.Need-add-total Inv-loop μ-loop
 add-total c = search needs
 
--- src/lib.rt:108:31
 add-width : tie.Need-add-width Inv-loop μ-loop
 add-width c = search needs
 
--- src/lib.rt:108:23
 mul-width : tie.Need-mul-width Inv-loop μ-loop
 mul-width c = search needs
 
--- src/lib.rt:108:23
 shared-slice-read-width : tie.Need-shared-slice-read-width Inv-loop μ-loop
 shared-slice-read-width c = search needs
 
--- src/lib.rt:108:9
 width-requires : tie.Need-width-requires Inv-loop μ-loop
 width-requires c κs = search needs
 
--- src/lib.rt:106:9
 add-i : tie.Need-add-i Inv-loop μ-loop
 add-i c = search needs
 
--- src/lib.rt:106:5
 loop-less : tie.Need-loop-less Inv-loop μ-loop
 loop-less c = search needs
 
--- src/lib.rt:106:5
 loop-again : tie.Need-loop-again Inv-loop μ-loop
 loop-again c =
     let at = c .before .before .before in
     let a = at .before .before .args in
     let h = at .before .before .pre in
     let l = a .circuit .now in
-    let i = at .loop .i in
-    (search needs,
-     width-at l (a .depth) h i (c .width .result) (search needs) (c .width .ensures),
-     width-small l (a .depth) h i (c .width .result) (search needs) (c .width .ensures),
-     omega arith,
-     omega (arith, at .loop .inv .4, at .loop .inv .1, count-at l (a .depth) h (exponentAt l i) i (search needs)))
+    let i = at .loop .i in (
+      search needs,
+      width-at l (a .depth) h i (c .width .result) (search needs) (c .width .ensures),
+      width-small l (a .depth) h i (c .width .result) (search needs) (c .width .ensures),
+      omega arith,
+      omega (arith, at .loop .inv .4, at .loop .inv .1, count-at l (a .depth) h (exponentAt l i) i (search needs)),
+    )
 
--- src/lib.rt:100:1
 returns : tie.Need-returns Inv-loop μ-loop
 returns c =
     let a = c .before .before .before .args in

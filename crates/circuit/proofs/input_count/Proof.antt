@@ -1,38 +1,30 @@
+-- `input_count` meets its contract: k_D is the last of the exponents.
+-- Assumes nothing.
 use Prim.Native.Nat.{ℕ, _^_}
 use mathlib.Core.Path.{ap, _∙_}
 use Rattle.circuit.proofs.Sized.{last-small, last-exponent}
 use borrow.Author.Needs.{needs}
 use Rattle.circuit.proofs.input_count.Statement.{statement}
 use Rattle.circuit.proofs.input_count.Tie as tie
-use Rattle.circuit.proofs.input_count.Reads as reads
-use Rattle.circuit.proofs.input_count.Lts as lts
-use Rattle.circuit.proofs.width.Reads as width-reads
 
--- src/lib.rt:149:17
 shared-slice-read-depth : tie.Need-shared-slice-read-depth
 shared-slice-read-depth c = search needs
 
--- src/lib.rt:149:17
 cast-depth : tie.Need-cast-depth
 cast-depth c = search needs
 
--- src/lib.rt:150:19
 add-width : tie.Need-add-width
 add-width c = search needs
 
--- src/lib.rt:150:11
 mul-width : tie.Need-mul-width
 mul-width c = search needs
 
--- src/lib.rt:150:11
 shared-slice-read-width : tie.Need-shared-slice-read-width
 shared-slice-read-width c = search needs
 
--- src/lib.rt:150:5
 width-requires : tie.Need-width-requires
 width-requires c κs = search needs
 
--- src/lib.rt:145:1
 returns : tie.Need-returns
 returns c =
     let a = c .before .before .before .before .args in

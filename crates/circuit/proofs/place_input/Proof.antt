@@ -1,3 +1,5 @@
+-- `place_input` meets its contract: the words are put over the rest of an array from their place on.
+-- Assumes nothing.
 use Prim.Native.Nat.{ℕ}
 use lib.ListN.{replicate, length-replicate}
 use Rattle.circuit.specs.Limits.{maxValues}
@@ -5,36 +7,27 @@ use Rattle.circuit.proofs.Evaluating.{placed}
 use borrow.Author.Needs.{needs}
 use Rattle.circuit.proofs.place_input.Statement.{statement}
 use Rattle.circuit.proofs.place_input.Tie as tie
-use Rattle.circuit.proofs.place_input.Reads as reads
-use Rattle.circuit.proofs.place_input.Lts as lts
-use Rattle.circuit.proofs.copy_front.Reads as copy-front-reads
 
--- src/lib.rt:229:16
 mul-values : tie.Need-mul-values
 mul-values c = search needs
 
--- src/lib.rt:229:16
 sub-copy-front : tie.Need-sub-copy-front
 sub-copy-front c = search needs
 
--- src/lib.rt:229:16
 part-values-start : tie.Need-part-values-start
 part-values-start c = search needs
 
--- src/lib.rt:229:16
 part-values-end : tie.Need-part-values-end
 part-values-end c = search needs
 
--- src/lib.rt:229:5
 copy-front-requires : tie.Need-copy-front-requires
 copy-front-requires c κs = search needs
 
--- src/lib.rt:224:1
 returns : tie.Need-returns
 returns c =
     let a = c .before .before .before .before .args in
     placed (replicate {A = ℕ} maxValues 0) (c .before .copy-front .last .0) (a .input .now) (a .at) (length-replicate {A = ℕ} maxValues 0)
-      (c .before .before .before .before .pre) (c .before .copy-front .ensures)
+    (c .before .before .before .before .pre) (c .before .copy-front .ensures)
 
 pub place-input-spec : {M : Type 1} → statement M
 place-input-spec =

@@ -1,3 +1,5 @@
+-- `width` meets its contract: a power of two that fits is not cut.
+-- Assumes nothing.
 use Prim.Native.Nat.{ℕ, _%_, _^_}
 use mathlib.Core.Path.{ap, _∙_}
 use native.Mathlib.Nat.{one-mul, mod-eq-of-lt, lt-of-le-of-lt, pow-le-pow-right}
@@ -5,18 +7,13 @@ use lib.Dec.{lit<}
 use borrow.Author.Needs.{needs}
 use Rattle.circuit.proofs.width.Statement.{statement}
 use Rattle.circuit.proofs.width.Tie as tie
-use Rattle.circuit.proofs.width.Reads as reads
-use Rattle.circuit.proofs.width.Lts as lts
 
--- src/lib.rt:22:9
 returns : tie.Need-returns
 returns c = search needs
 
--- src/lib.rt:24:5
 shl-result : tie.Need-shl-result
 shl-result c = search needs
 
--- src/lib.rt:18:1
 returns-2 : tie.Need-returns-2
 returns-2 c = λ h. ap (λ (n : ℕ). n % 18446744073709551616) (one-mul (2 ^ c .before .args .k)) ∙ mod-eq-of-lt (lt-of-le-of-lt (pow-le-pow-right (lit< tt) h) (lit< tt))
 

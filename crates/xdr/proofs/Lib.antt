@@ -1,0 +1,4 @@
+pub mod Words
+pub mod Found
+pub mod Answers
+pub mod RoundTrip

@@ -1,0 +1,162 @@
+-- `scan` meets its contract. Invariant: the arrays done, put before those found from here on, are all arrays, and their counts stand over zeros.
+-- Assumes nothing.
+use mathlib.Core.Path.{_≡_, refl, sym, ap, _∙_}
+use mathlib.Core.List.{List, [], _∷_, _++_, map, append-nil}
+use mathlib.Core.Option.{some}
+use native.Mathlib.Nat.{sub-zero}
+use Prim.Native.Nat.{ℕ, _+_, _-_, _≤_}
+use mathlib.Core.Logic.{⊎-elim, inl, inr}
+use borrow.Author.Tests.{ltb-true, ltb-false}
+use native.Mathlib.Omega.{arith}
+use lib.ListN.{length, drop, length-append, length-drop}
+use Rattle.lists.specs.Buffer.{over}
+use Rattle.xdr.specs.Read.{arrays, countsOf, firstWord, whole, size}
+use Rattle.xdr.proofs.Found.{refused-found, zeros, front, whole-fits, length-front, arrays-none, arrays-end, arrays-left-over, after-nil, after-front, counts-more, called-none, called-some, after, counts-found, front-some, front-none}
+use borrow.Author.Needs.{needs}
+use Rattle.xdr.proofs.scan.Statement.{statement}
+use Rattle.xdr.proofs.scan.Tie as tie
+
+abbrev Inv-loop : tie.InvT-loop
+Inv-loop bytes number counts₀ at₀ i₀ i-end counts at i =
+    (done : List (List ℕ)) × (length done ≡ i) × (i ≤ number) × (i-end ≡ number) × (1 ≤ number) × (number ≤ 4)
+    × (at ≤ length bytes) × (counts ≡ over (map length done) zeros) × (arrays number bytes ≡ after done (arrays (number - i) (drop at bytes)))
+
+abbrev μ-loop : tie.MeasureT-loop
+μ-loop bytes number counts₀ at₀ i₀ i-end counts at i = number - i
+
+returns : tie.Need-returns Inv-loop μ-loop
+returns c =
+    let start = c .before .before in
+    let none = called-none (start .args .number) (start .args .bytes .now)
+    (⊎-elim (λ w. inl (omega arith)) (λ w. inr (omega (arith, ltb-true))) (c .if1 .came)) in
+    sym (refused-found none)
+
+loop-holds : tie.Need-loop-holds Inv-loop μ-loop
+loop-holds c =
+    ([], refl, search needs, refl, search needs, omega (arith, ltb-false), search needs, refl, rw sub-zero (sym (after-nil _)))
+
+front-at-requires : tie.Need-front-at-requires Inv-loop μ-loop
+front-at-requires c κs = search needs
+
+enum-known-front : tie.Need-enum-known-front Inv-loop μ-loop
+enum-known-front c = search needs
+
+enum-told : tie.Need-enum-told Inv-loop μ-loop
+enum-told c = search needs
+
+returns-2 : tie.Need-returns-2 Inv-loop μ-loop
+returns-2 c =
+    let here = c .before .before .before .before in
+    let start = here .before .before .before .before in
+    let inv = here .loop .inv in
+    let l = drop (here .loop .at) (start .args .bytes .now) in
+    let unfit = front-none (whole l) (firstWord l) (sym (c .enum-told .given .1) ∙ c .before .before .front-at .ensures) in
+    sym (refused-found (called-some (start .args .number) (start .args .bytes .now) (inv .4) (inv .5) ∙ inv .8
+    ∙ ap (after (inv .0)) (arrays-none (start .args .number - here .loop .i) l (omega arith) unfit)))
+
+mul-counts : tie.Need-mul-counts Inv-loop μ-loop
+mul-counts c = search needs
+
+array-write-counts : tie.Need-array-write-counts Inv-loop μ-loop
+array-write-counts c = omega arith
+
+cast-at : tie.Need-cast-at Inv-loop μ-loop
+cast-at c = search needs
+
+mul-at : tie.Need-mul-at Inv-loop μ-loop
+mul-at c = search needs
+
+add-at : tie.Need-add-at Inv-loop μ-loop
+add-at c = search needs
+
+add-at-2 : tie.Need-add-at-2 Inv-loop μ-loop
+add-at-2 c = search needs
+
+add-i : tie.Need-add-i Inv-loop μ-loop
+add-i c = search needs
+
+loop-less : tie.Need-loop-less Inv-loop μ-loop
+loop-less c = search needs
+
+loop-again : tie.Need-loop-again Inv-loop μ-loop
+loop-again c =
+    let here = c .before .before .before .before .before in
+    let start = here .before .before .before .before in
+    let bytes = start .args .bytes .now in
+    let inv = here .loop .inv in
+    let l = drop (here .loop .at) bytes in
+    let count = c .before .front .given .0 .0 in
+    let fit = front-some (whole l) (firstWord l) count (sym (c .before .front .given .1) ∙ c .before .before .before .front-at .ensures) in
+    let inside = whole-fits l (fit .0) .1 in
+    let bound : size (firstWord l) + here .loop .at ≤ length bytes = omega (arith, inside, length-drop (here .loop .at) bytes) in (
+      inv .0 ++ (front l ∷ []),
+      simp length-append (omega arith),
+      search needs,
+      refl,
+      inv .4,
+      inv .5,
+      omega (arith, bound, fit .1),
+      counts-more (inv .0) (front l) (here .loop .counts) (here .loop .i) count (inv .7) (inv .1) (omega arith)
+          (fit .1 ∙ sym (length-front l inside)),
+      after-front (start .args .number) (here .loop .i) (here .loop .at) count bytes (inv .0) _ (inv .8) (omega arith) (fit .0) (fit .1),
+    )
+
+returns-3 : tie.Need-returns-3 Inv-loop μ-loop
+returns-3 c =
+    let here = c .before .before in
+    let start = here .before .before .before .before in
+    let inv = here .loop .inv in
+    let l = drop (here .loop .at) (start .args .bytes .now) in
+    sym (refused-found (called-some (start .args .number) (start .args .bytes .now) (inv .4) (inv .5) ∙ inv .8
+    ∙ ap (after (inv .0)) (arrays-left-over (start .args .number - here .loop .i) l (omega arith) (simp length-drop (omega arith)))))
+
+array-read-t24 : tie.Need-array-read-t24 Inv-loop μ-loop
+array-read-t24 c = search needs
+
+array-read-t27 : tie.Need-array-read-t27 Inv-loop μ-loop
+array-read-t27 c = search needs
+
+array-read-t30 : tie.Need-array-read-t30 Inv-loop μ-loop
+array-read-t30 c = search needs
+
+array-read-t33 : tie.Need-array-read-t33 Inv-loop μ-loop
+array-read-t33 c = search needs
+
+returns-4 : tie.Need-returns-4 Inv-loop μ-loop
+returns-4 c =
+    let here = c .before .before in
+    let start = here .before .before .before .before in
+    let inv = here .loop .inv in
+    let l = drop (here .loop .at) (start .args .bytes .now) in
+    let all = called-some (start .args .number) (start .args .bytes .now) (inv .4) (inv .5) ∙ inv .8
+    ∙ ap (after (inv .0)) (arrays-end (start .args .number - here .loop .i) l (omega arith) (simp length-drop (omega arith)))
+    ∙ ap some (append-nil (inv .0)) in
+    counts-found (inv .0) (here .loop .counts) (inv .7) ∙ ap countsOf (sym all)
+
+pub scan-spec : {M : Type 1} → statement M
+scan-spec =
+    tie.close
+    (tie.spec
+    Inv-loop
+    μ-loop
+    returns
+    loop-holds
+    front-at-requires
+    enum-known-front
+    enum-told
+    returns-2
+    mul-counts
+    array-write-counts
+    cast-at
+    mul-at
+    add-at
+    add-at-2
+    add-i
+    loop-less
+    loop-again
+    returns-3
+    array-read-t24
+    array-read-t27
+    array-read-t30
+    array-read-t33
+    returns-4)

@@ -1,0 +1,152 @@
+-- `write` meets its contract. Invariant: the words done stand over the buffer, the arrays ahead are all there, and together they are all words.
+-- Assumes nothing.
+use mathlib.Core.Path.{_≡_, refl, sym, ap, _∙_}
+use mathlib.Core.Option.{IsSome}
+use mathlib.Core.List.{List, [], _++_, append-assoc, append-nil}
+use Prim.Native.Nat.{ℕ, _+_, _-_, _≤_}
+use native.Mathlib.Omega.{arith}
+use lib.ListN.{length, drop, take, length-append, length-drop, length-take}
+use Rattle.lists.specs.Buffer.{over}
+use Rattle.lists.proofs.Buffer.{over-more, length-over}
+use Rattle.xdr.specs.Read.{arrays, wordsOf}
+use Rattle.xdr.proofs.Found.{front, whole-fits, whole-some, Step, step, words-none}
+use borrow.Author.Needs.{needs}
+use Rattle.xdr.proofs.write.Statement.{statement}
+use Rattle.xdr.proofs.write.Tie as tie
+
+abbrev Inv-loop : tie.InvT-loop
+Inv-loop bytes number buffer₀ at₀ to₀ left₀ buffer at to left =
+    (done : List ℕ) × (length done ≡ to) × (at ≤ length bytes) × (buffer ≡ over done buffer₀) × (length buffer ≡ length buffer₀)
+    × (to + length (wordsOf (arrays left (drop at bytes))) ≤ length buffer₀) × IsSome (arrays left (drop at bytes))
+    × (wordsOf (arrays number bytes) ≡ done ++ wordsOf (arrays left (drop at bytes)))
+
+abbrev μ-loop : tie.MeasureT-loop
+μ-loop bytes number buffer₀ at₀ to₀ left₀ buffer at to left = left
+
+-- the array at the loop's place, once its count is read
+step-at :
+    (read : tie.After-word-at Inv-loop μ-loop)
+    → Step (read .before .before .loop .left) (read .before .before .loop .at) (read .word-at .result)
+    (read .before .before .before .before .before .args .bytes .now)
+step-at read =
+    let here = read .before .before .loop in
+    step (here .left) (here .at) (read .word-at .result) (read .before .before .before .before .before .args .bytes .now)
+    (read .before .loop-test .taken) (here .inv .2) (here .inv .6) (read .word-at .ensures)
+
+loop-holds : tie.Need-loop-holds Inv-loop μ-loop
+loop-holds c = ([], refl, search needs, refl, refl, search needs, c .before .before .pre .0, refl)
+
+word-at-requires : tie.Need-word-at-requires Inv-loop μ-loop
+word-at-requires c κs =
+    let here = c .before in
+    let bytes = here .before .before .before .args .bytes .now in
+    let l = drop (here .loop .at) bytes in
+    let fits = whole-fits l (whole-some (here .loop .left) l (c .loop-test .taken) (here .loop .inv .6)) .1 in
+    omega (arith, fits, length-drop (here .loop .at) bytes)
+
+cast-count : tie.Need-cast-count Inv-loop μ-loop
+cast-count c = search needs
+
+add-start : tie.Need-add-start Inv-loop μ-loop
+add-start c = search needs
+
+mul-at : tie.Need-mul-at Inv-loop μ-loop
+mul-at c = search needs
+
+add-at : tie.Need-add-at Inv-loop μ-loop
+add-at c = search needs
+
+sub-copy-words : tie.Need-sub-copy-words Inv-loop μ-loop
+sub-copy-words c = search needs
+
+part-copy-words-start : tie.Need-part-copy-words-start Inv-loop μ-loop
+part-copy-words-start c = search needs
+
+part-copy-words-end : tie.Need-part-copy-words-end Inv-loop μ-loop
+part-copy-words-end c = let s = step-at c in omega arith
+
+mul-copy-words : tie.Need-mul-copy-words Inv-loop μ-loop
+mul-copy-words c = search needs
+
+sub-copy-words-2 : tie.Need-sub-copy-words-2 Inv-loop μ-loop
+sub-copy-words-2 c = search needs
+
+part-copy-words-start-2 : tie.Need-part-copy-words-start-2 Inv-loop μ-loop
+part-copy-words-start-2 c = search needs
+
+part-copy-words-end-2 : tie.Need-part-copy-words-end-2 Inv-loop μ-loop
+part-copy-words-end-2 c = search needs
+
+copy-words-requires : tie.Need-copy-words-requires Inv-loop μ-loop
+copy-words-requires c κs = let s = step-at (c .before .before) in simp (length-take, length-drop) (omega arith)
+
+add-to : tie.Need-add-to Inv-loop μ-loop
+add-to c = let s = step-at (c .before .before .before .before .before) in search needs
+
+sub-left : tie.Need-sub-left Inv-loop μ-loop
+sub-left c = search needs
+
+loop-less : tie.Need-loop-less Inv-loop μ-loop
+loop-less c = search needs
+
+loop-again : tie.Need-loop-again Inv-loop μ-loop
+loop-again c =
+    let read = c .before .before .before .before .before in
+    let here = read .before .before in
+    let inv = here .loop .inv in
+    let s = step-at read in
+    let start = here .before .before .before in
+    let buffer = start .args .buffer .now in
+    let ws = front (drop (here .loop .at) (start .args .bytes .now)) in
+    let lent = take (length (here .loop .buffer) - here .loop .to) (drop (here .loop .to) (here .loop .buffer)) in
+    let call = c .before .before .copy-words in
+    let part = call .ensures ∙ ap (λ (ms : List ℕ). over ms lent) (s .part) in
+    let now = over-more (inv .0) ws buffer (here .loop .buffer) (call .last .1 .0) (here .loop .to) (inv .3) (inv .1) part (omega arith) in (
+      inv .0 ++ ws,
+      simp length-append (omega arith),
+      s .inside,
+      now,
+      ap length now ∙ length-over (inv .0 ++ ws) buffer (simp length-append (omega arith)),
+      omega arith,
+      s .rest,
+      inv .7 ∙ ap (λ (t : List ℕ). inv .0 ++ t) (s .all) ∙ sym (append-assoc (inv .0) ws _),
+    )
+
+same-length : tie.Need-same-length Inv-loop μ-loop
+same-length c = search needs
+
+returns : tie.Need-returns Inv-loop μ-loop
+returns c =
+    let here = c .before in
+    let start = here .before .before .before in
+    let inv = here .loop .inv in
+    let none = words-none (here .loop .left) (drop (here .loop .at) (start .args .bytes .now)) (omega arith) in
+    inv .3
+    ∙ ap (λ (ms : List ℕ). over ms (start .args .buffer .now)) (sym (inv .7 ∙ ap (λ (t : List ℕ). inv .0 ++ t) none ∙ append-nil (inv .0)))
+
+pub write-spec : {M : Type 1} → statement M
+write-spec =
+    tie.close
+    (tie.spec
+    Inv-loop
+    μ-loop
+    loop-holds
+    word-at-requires
+    cast-count
+    add-start
+    mul-at
+    add-at
+    sub-copy-words
+    part-copy-words-start
+    part-copy-words-end
+    mul-copy-words
+    sub-copy-words-2
+    part-copy-words-start-2
+    part-copy-words-end-2
+    copy-words-requires
+    add-to
+    sub-left
+    loop-less
+    loop-again
+    same-length
+    returns)

@@ -1,0 +1,4 @@
+pub mod Limits
+pub mod Read
+pub mod Encode
+pub mod Theorems
