@@ -63,7 +63,7 @@ pub record Wires (next : ℕ) (g : Gate) : Type 0 where
   pub left : g .left < next
   pub right : g .right < next
 
-gate-wires : (next : ℕ) (g : Gate) → gateCause next g ≡ 0 → Wires next g
+pub gate-wires : (next : ℕ) (g : Gate) → gateCause next g ≡ 0 → Wires next g
 unfolding gateCause wiresGood
 gate-wires next g e =
     let kinds = need-none (leb (g .kind) 2) 5 _ e in

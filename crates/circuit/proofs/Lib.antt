@@ -4,3 +4,4 @@ pub mod Loading
 pub mod Filling
 pub mod Evaluating
 pub mod Answering
+pub mod Layers

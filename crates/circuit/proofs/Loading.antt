@@ -110,7 +110,7 @@ unfolding exponents
 enough c h q = omega (arith, length-take (depth c) (drop 2 c), length-drop 2 c, q, h)
 
 -- NO REFUSAL: what it says of the list
-split-true : (a b : Bool) → (a && b) ≡ true → (a ≡ true) × (b ≡ true)
+pub split-true : (a b : Bool) → (a && b) ≡ true → (a ≡ true) × (b ≡ true)
 split-true true b e = (refl, e)
 split-true false b e = absurd (false≢true e)
 

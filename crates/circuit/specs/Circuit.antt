@@ -48,6 +48,10 @@ gatesStart c = 2 + depth c
 unfoldable pub gateLayers : List ℕ → List (List Gate)
 gateLayers c = layersOf outputExponent (exponents c) (drop (gatesStart c) c)
 
+-- the gates of layer i
+unfoldable pub gatesAt : List ℕ → ℕ → List Gate
+gatesAt c i = getD (gateLayers c) i []
+
 -- the words that the exponents call for
 unfoldable pub wordCount : List ℕ → ℕ
 wordCount c = gatesStart c + 3 * gateCount outputExponent (exponents c)

@@ -6,3 +6,4 @@ pub mod Evaluate
 pub mod Answer
 pub mod Layer
 pub mod Sized
+pub mod Theorems

@@ -1,0 +1,145 @@
+-- The layers of a legal circuit: their sizes, their values, their wires.
+-- Assumes nothing.
+use Prim.Native.Nat.{ℕ, zero, suc, _+_, _*_, _^_, _≤_, _<_}
+use mathlib.Core.Path.{_≡_, refl, sym, ap, _∙_, subst}
+use mathlib.Core.Bool.{Bool, true, false, _&&_}
+use mathlib.Core.List.{List, [], _∷_, map}
+use native.Mathlib.Nat.{mod-lt, le-of-suc-le-suc, le-trans, le-of-eq}
+use native.Mathlib.Omega.{arith}
+use lib.Dec.{ltb}
+use lib.ListN.{length, length-map, getD, drop}
+use borrow.Author.Tests.{ltb-true}
+use Rattle.lists.specs.Each.{All}
+use Rattle.primes.specs.Prime.{Prime}
+use Rattle.primes.proofs.Prime.{listed-prime}
+use Rattle.refusal.proofs.Order.{first-none}
+use Rattle.algebra.specs.Numbers.{Numbers, words}
+use Rattle.circuit.specs.Gate.{Gate, operate, gateValue}
+use Rattle.circuit.specs.Circuit.{primeOf, depth, exponents, exponentAt, outputExponent, gatesStart, gatesOf, layersOf, gateLayers, gatesAt, inputExponent}
+use Rattle.circuit.specs.Legal.{allBelow, gateCause, gatesCause, layersCause, loadAnswer, listsCause}
+use Rattle.circuit.specs.Evaluate.{layersFrom, layers, valuesAt, value}
+use Rattle.circuit.specs.Theorems.{LegalPrime, ValuesAreResidues, LayerSizes, LastLayer, LayerByLayer, WiresBelow, OutputLayer}
+use Rattle.circuit.proofs.Sized.{length-exponents}
+use Rattle.circuit.proofs.Loading.{split-true, legal-circuit, legal-lists}
+use Rattle.circuit.proofs.Filling.{gate-wires, length-gates}
+
+pub legal-prime : LegalPrime
+legal-prime c e = listed-prime (primeOf c) (legal-circuit c e .listed)
+
+-- words below a bound, as a test and as a fact
+pub all-below : (p : ℕ) (ws : List ℕ) → allBelow p ws ≡ true → All (λ w. w < p) ws
+unfolding allBelow
+all-below p [] e = tt
+all-below p (w ∷ ws) e =
+    let parts = split-true (ltb w p) (allBelow p ws) e in
+    (ltb-true w p (parts .0), all-below p ws (parts .1))
+
+-- VALUES
+pub operate-below : (p : ℕ) → 0 < p → (kind x y : ℕ) → operate (words p) kind x y < p
+operate-below p pos zero x y = pos
+operate-below p pos (suc zero) x y = mod-lt (x + y) pos
+operate-below p pos (suc (suc zero)) x y = mod-lt (x * y) pos
+operate-below p pos (suc (suc (suc kind))) x y = pos
+
+values-below : (p : ℕ) → 0 < p → (next : List ℕ) (gs : List Gate) → All (λ v. v < p) (map (gateValue (words p) next) gs)
+unfolding gateValue
+values-below p pos next [] = tt
+values-below p pos next (g ∷ gs) = (operate-below p pos (g .kind) _ _, values-below p pos next gs)
+
+layers-below : (p : ℕ) → 0 < p → (ls : List (List Gate)) (input : List ℕ) → All (λ v. v < p) input
+    → All (λ layer. All (λ v. v < p) layer) (layersFrom (words p) ls input)
+unfolding layersFrom
+layers-below p pos [] input h = (h, tt)
+layers-below p pos (gs ∷ ls) input h = (values-below p pos (getD (layersFrom (words p) ls input) 0 []) gs, layers-below p pos ls input h)
+
+pub values-are-residues : ValuesAreResidues
+unfolding layers
+values-are-residues c input e =
+    let legal = legal-lists c input e in
+    let two = listed-prime (primeOf c) (legal .circuit .listed) .two-le in
+    layers-below (primeOf c) (omega arith) (gateLayers c) input (all-below (primeOf c) input (legal .residues))
+
+-- SIZES
+length-layers : (k : ℕ) (ks ws : List ℕ) → length (layersOf k ks ws) ≡ length ks
+unfolding layersOf
+length-layers k [] ws = refl
+length-layers k (k′ ∷ ks) ws = ap suc (length-layers k′ ks (drop (3 * 2 ^ k) ws))
+
+sizes-from : (N : Numbers ℕ) (k : ℕ) (ks ws input : List ℕ) (i : ℕ) → i ≤ length ks → length input ≡ 2 ^ getD (k ∷ ks) (length ks) 0
+    → length (getD (layersFrom N (layersOf k ks ws) input) i []) ≡ 2 ^ getD (k ∷ ks) i 0
+unfolding layersFrom layersOf
+sizes-from N k [] ws input zero h e = e
+sizes-from N k [] ws input (suc i) h e = absurd (omega arith)
+sizes-from N k (k′ ∷ ks) ws input zero h e =
+    length-map (gatesOf (2 ^ k) ws) (gateValue N (getD (layersFrom N (layersOf k′ ks (drop (3 * 2 ^ k) ws)) input) 0 [])) ∙ length-gates (2 ^ k) ws
+sizes-from N k (k′ ∷ ks) ws input (suc i) h e = sizes-from N k′ ks (drop (3 * 2 ^ k) ws) input i (le-of-suc-le-suc h) e
+
+pub layer-sizes : LayerSizes
+unfolding valuesAt layers gateLayers inputExponent
+layer-sizes c input e i h =
+    let legal = legal-lists c input e in
+    let size = length-exponents c (depth c) (legal .circuit .sized .headed) in
+    sizes-from (words (primeOf c)) outputExponent (exponents c) (drop (gatesStart c) c) input i (omega arith) (legal .sized)
+
+-- LAYER BY LAYER
+last-from : (N : Numbers ℕ) (ls : List (List Gate)) (input : List ℕ) → getD (layersFrom N ls input) (length ls) [] ≡ input
+unfolding layersFrom
+last-from N [] input = refl
+last-from N (gs ∷ ls) input = last-from N ls input
+
+pub last-layer : LastLayer
+unfolding valuesAt layers gateLayers
+last-layer c input e =
+    let legal = legal-lists c input e in
+    let size : depth c ≡ length (layersOf outputExponent (exponents c) (drop (gatesStart c) c)) =
+      sym (length-layers outputExponent (exponents c) (drop (gatesStart c) c) ∙ length-exponents c (depth c) (legal .circuit .sized .headed)) in
+    ap (λ (i : ℕ). getD (layersFrom (words (primeOf c)) (layersOf outputExponent (exponents c) (drop (gatesStart c) c)) input) i []) size
+    ∙ last-from (words (primeOf c)) (layersOf outputExponent (exponents c) (drop (gatesStart c) c)) input
+
+step-from : (N : Numbers ℕ) (ls : List (List Gate)) (input : List ℕ) (i : ℕ) → i < length ls
+    → getD (layersFrom N ls input) i [] ≡ map (gateValue N (getD (layersFrom N ls input) (suc i) [])) (getD ls i [])
+unfolding layersFrom
+step-from N [] input i h = absurd (omega arith)
+step-from N (gs ∷ ls) input zero h = refl
+step-from N (gs ∷ ls) input (suc i) h = step-from N ls input i (le-of-suc-le-suc h)
+
+pub layer-by-layer : LayerByLayer
+unfolding valuesAt layers gateLayers gatesAt
+layer-by-layer c input e i h =
+    let legal = legal-lists c input e in
+    let size = length-layers outputExponent (exponents c) (drop (gatesStart c) c) ∙ length-exponents c (depth c) (legal .circuit .sized .headed) in
+    step-from (words (primeOf c)) (layersOf outputExponent (exponents c) (drop (gatesStart c) c)) input i (omega (arith, size))
+
+-- WIRES
+gates-wired : (next : ℕ) (gs : List Gate) → gatesCause next gs ≡ 0 → All (λ g. (g .left < next) × (g .right < next)) gs
+unfolding gatesCause
+gates-wired next [] e = tt
+gates-wired next (g ∷ gs) e =
+    let parts = first-none (gateCause next g) (gatesCause next gs) e in
+    let w = gate-wires next g (parts .0) in
+    ((w .left, w .right), gates-wired next gs (parts .1))
+
+layers-wired : (ks : List ℕ) (ls : List (List Gate)) (i : ℕ) → layersCause ks ls ≡ 0 → i < length ks
+    → All (λ g. (g .left < 2 ^ getD ks i 0) × (g .right < 2 ^ getD ks i 0)) (getD ls i [])
+unfolding layersCause
+layers-wired [] ls i e h = absurd (omega arith)
+layers-wired (k ∷ ks) [] i e h = tt
+layers-wired (k ∷ ks) (gs ∷ ls) zero e h = gates-wired (2 ^ k) gs (first-none (gatesCause (2 ^ k) gs) (layersCause ks ls) e .0)
+layers-wired (k ∷ ks) (gs ∷ ls) (suc i) e h =
+    layers-wired ks ls i (first-none (gatesCause (2 ^ k) gs) (layersCause ks ls) e .1) (le-of-suc-le-suc h)
+
+pub wires-below-next : WiresBelow
+unfolding gatesAt
+wires-below-next c e i h =
+    let legal = legal-circuit c e in
+    layers-wired (exponents c) (gateLayers c) i (legal .wired) (le-trans h (le-of-eq (sym (length-exponents c (depth c) (legal .sized .headed)))))
+
+-- a list of one word
+single : (l : List ℕ) → length l ≡ 1 → l ≡ getD l 0 0 ∷ []
+single [] e = absurd (omega arith)
+single (x ∷ []) e = refl
+single (x ∷ y ∷ l) e = absurd (omega arith)
+
+pub output-layer : OutputLayer
+unfolding value
+output-layer c input e = single (valuesAt c input 0) (layer-sizes c input e 0 (omega arith))
