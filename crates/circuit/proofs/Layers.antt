@@ -1,8 +1,8 @@
 -- The layers of a legal circuit: their sizes, their values, their wires.
 -- Assumes nothing.
 use Prim.Native.Nat.{ℕ, zero, suc, _+_, _*_, _^_, _≤_, _<_}
-use mathlib.Core.Path.{_≡_, refl, sym, ap, _∙_, subst}
-use mathlib.Core.Bool.{Bool, true, false, _&&_}
+use mathlib.Core.Path.{_≡_, refl, sym, ap, _∙_}
+use mathlib.Core.Bool.{true}
 use mathlib.Core.List.{List, [], _∷_, map}
 use native.Mathlib.Nat.{mod-lt, le-of-suc-le-suc, le-trans, le-of-eq}
 use native.Mathlib.Omega.{arith}
@@ -10,18 +10,17 @@ use lib.Dec.{ltb}
 use lib.ListN.{length, length-map, getD, drop}
 use borrow.Author.Tests.{ltb-true}
 use Rattle.lists.specs.Each.{All}
-use Rattle.primes.specs.Prime.{Prime}
 use Rattle.primes.proofs.Prime.{listed-prime}
 use Rattle.refusal.proofs.Order.{first-none}
 use Rattle.algebra.specs.Numbers.{Numbers, words}
 use Rattle.circuit.specs.Gate.{Gate, operate, gateValue}
-use Rattle.circuit.specs.Circuit.{primeOf, depth, exponents, exponentAt, outputExponent, gatesStart, gatesOf, layersOf, gateLayers, gatesAt, inputExponent}
-use Rattle.circuit.specs.Legal.{allBelow, gateCause, gatesCause, layersCause, loadAnswer, listsCause}
-use Rattle.circuit.specs.Evaluate.{layersFrom, layers, valuesAt, value}
+use Rattle.circuit.specs.Circuit.{primeOf, depth, exponents, outputExponent, gatesStart, gatesOf, layersOf, gateLayers, gatesAt, inputExponent}
+use Rattle.circuit.specs.Legal.{allBelow, gateCause, gatesCause, layersCause}
+use Rattle.circuit.specs.Values.{layersFrom, layers, valuesAt, value}
 use Rattle.circuit.specs.Theorems.{LegalPrime, ValuesAreResidues, LayerSizes, LastLayer, LayerByLayer, WiresBelow, OutputLayer}
 use Rattle.circuit.proofs.Sized.{length-exponents}
 use Rattle.circuit.proofs.Loading.{split-true, legal-circuit, legal-lists}
-use Rattle.circuit.proofs.Filling.{gate-wires, length-gates}
+use Rattle.circuit.proofs.Legal.{gate-wires, length-gates}
 
 pub legal-prime : LegalPrime
 legal-prime c e = listed-prime (primeOf c) (legal-circuit c e .listed)
@@ -92,7 +91,7 @@ unfolding valuesAt layers gateLayers
 last-layer c input e =
     let legal = legal-lists c input e in
     let size : depth c ≡ length (layersOf outputExponent (exponents c) (drop (gatesStart c) c)) =
-      sym (length-layers outputExponent (exponents c) (drop (gatesStart c) c) ∙ length-exponents c (depth c) (legal .circuit .sized .headed)) in
+    sym (length-layers outputExponent (exponents c) (drop (gatesStart c) c) ∙ length-exponents c (depth c) (legal .circuit .sized .headed)) in
     ap (λ (i : ℕ). getD (layersFrom (words (primeOf c)) (layersOf outputExponent (exponents c) (drop (gatesStart c) c)) input) i []) size
     ∙ last-from (words (primeOf c)) (layersOf outputExponent (exponents c) (drop (gatesStart c) c)) input
 

@@ -1,18 +1,19 @@
 -- Laws of legality: a list's words from a place on, a gate by its words, layer by layer.
 -- Assumes nothing.
-use Prim.Native.Nat.{ℕ, suc, _+_, _-_, _*_, _≤_, _<_}
+use Prim.Native.Nat.{ℕ, zero, suc, _+_, _-_, _*_, _≤_, _<_}
 use mathlib.Core.Path.{_≡_, refl, ap, _∙_}
-use mathlib.Core.Bool.{Bool, true, false, not, _&&_, _||_}
-use mathlib.Core.List.{List, _∷_}
-use native.Mathlib.Nat.{add-zero}
+use mathlib.Core.Bool.{Bool, true, false, not, _&&_, _||_, false≢true}
+use mathlib.Core.List.{List, [], _∷_}
+use native.Mathlib.Nat.{add-zero, le-of-suc-le-suc}
 use native.Mathlib.Numerals.{add-one}
 use native.Mathlib.Omega.{arith}
-use lib.Dec.{ltb, eqb}
+use lib.Dec.{ltb, leb, eqb}
 use lib.ListN.{length, getD, drop, drop-of-length-le}
 use lib.Seq.{drop-cons, drop-drop, getD-drop}
-use borrow.Author.Tests.{lt-ltb, le-ltb, lt-leb, le-leb, eq-eqb, ne-eqb}
+use borrow.Author.Tests.{lt-ltb, le-ltb, lt-leb, le-leb, eq-eqb, ne-eqb, ltb-true}
 use Rattle.refusal.specs.Order.{need, first}
-use Rattle.circuit.specs.Gate.{gate}
+use Rattle.refusal.proofs.Order.{first-none, need-none}
+use Rattle.circuit.specs.Gate.{Gate, gate}
 use Rattle.circuit.specs.Circuit.{gatesOf}
 use Rattle.circuit.specs.Legal.{allBelow, wiresGood, gateCause, gatesCause}
 
@@ -102,3 +103,37 @@ gates-at next count i at c h =
 pub gates-end : (next count i : ℕ) (ws : List ℕ) → count ≤ i → gatesCause next (gatesOf (count - i) ws) ≡ 0
 unfolding gatesCause gatesOf
 gates-end next count i ws h = let none : count - i ≡ 0 = omega arith in rw none
+
+pub length-gates : (n : ℕ) (ws : List ℕ) → length (gatesOf n ws) ≡ n
+unfolding gatesOf
+length-gates zero ws = refl
+length-gates (suc n) ws = ap suc (length-gates n (drop 3 ws))
+
+-- legal gates have their wires below
+and-left : (a b : Bool) → (a && b) ≡ true → a ≡ true
+and-left true b e = refl
+and-left false b e = absurd (false≢true e)
+
+and-right : (a b : Bool) → (a && b) ≡ true → b ≡ true
+and-right true b e = e
+and-right false b e = absurd (false≢true e)
+
+pub record Wires (next : ℕ) (g : Gate) : Type 0 where
+  pub left : g .left < next
+  pub right : g .right < next
+
+pub gate-wires : (next : ℕ) (g : Gate) → gateCause next g ≡ 0 → Wires next g
+unfolding gateCause wiresGood
+gate-wires next g e =
+    let kinds = need-none (leb (g .kind) 2) 5 _ e in
+    let good = need-none (wiresGood next g) 6 _ (kinds .1) .0 in
+    record {
+      left = ltb-true (g .left) next (and-left (ltb (g .left) next) _ good);
+      right = ltb-true (g .right) next (and-left (ltb (g .right) next) _ (and-right (ltb (g .left) next) _ good));
+    }
+
+pub gates-wires : (next : ℕ) (gs : List Gate) (i : ℕ) (d : Gate) → gatesCause next gs ≡ 0 → i < length gs → Wires next (getD gs i d)
+unfolding gatesCause
+gates-wires next [] i d e h = absurd (omega arith)
+gates-wires next (g ∷ gs) zero d e h = gate-wires next g (first-none (gateCause next g) (gatesCause next gs) e .0)
+gates-wires next (g ∷ gs) (suc i) d e h = gates-wires next gs i d (first-none (gateCause next g) (gatesCause next gs) e .1) (le-of-suc-le-suc h)

@@ -1,8 +1,8 @@
 -- Laws of a list's exponents, and of its layers from layer i on.
 -- Assumes nothing.
-use Prim.Native.Nat.{ℕ, zero, suc, _+_, _-_, _*_, _^_, _≤_, _<_}
+use Prim.Native.Nat.{ℕ, zero, suc, _+_, _-_, _*_, _^_, _≤_, _<_, zero-le}
 use mathlib.Core.Path.{_≡_, refl, sym, ap, _∙_, subst}
-use mathlib.Core.Bool.{Bool, true, false, _&&_, false≢true}
+use mathlib.Core.Bool.{Bool, true, false, cond, _&&_, false≢true}
 use mathlib.Core.List.{List, [], _∷_}
 use native.Mathlib.Nat.{pow-le-pow-right, le-refl}
 use native.Mathlib.Numerals.{add-one}
@@ -10,10 +10,11 @@ use native.Mathlib.Omega.{arith}
 use lib.Dec.{ltb, lit<}
 use lib.ListN.{length, getD, drop, length-drop, drop-of-length-le}
 use lib.Seq.{length-take-le, drop-cons, drop-drop, getD-take, getD-drop}
-use borrow.Author.Tests.{ltb-true}
+use borrow.Author.Tests.{ltb-true, le-leb, lt-leb}
+use native.Mathlib.Decide.{decLe}
 use Rattle.refusal.specs.Order.{first}
 use Rattle.circuit.specs.Limits.{maxDepth, maxExponent}
-use Rattle.circuit.specs.Circuit.{depth, exponents, exponentAt, outputExponent, gatesOf, layersOf, gateLayers, gateCount, wordCount, inputExponent}
+use Rattle.circuit.specs.Circuit.{widthOf, depth, exponents, exponentAt, outputExponent, gatesOf, layersOf, gateLayers, gateCount, wordCount, inputExponent, inputCount}
 use Rattle.circuit.specs.Legal.{allBelow, gatesCause, layersCause}
 use Rattle.circuit.specs.Sized.{Exponents, Sized, LegalCircuit, LayerOf}
 
@@ -40,6 +41,21 @@ below-rest p w ws e = go (ltb w p) e
 -- a layer's width
 pub width-le : (k : ℕ) → k ≤ maxExponent → 2 ^ k ≤ 256
 width-le k h = pow-le-pow-right (lit< tt) h
+
+pub width-of : (k : ℕ) → k ≤ maxExponent → widthOf k ≡ 2 ^ k
+unfolding widthOf
+width-of k h = ap (λ (b : Bool). cond b (2 ^ k) 0) (le-leb k maxExponent h)
+
+pub width-none : (k : ℕ) → maxExponent < k → widthOf k ≡ 0
+unfolding widthOf
+width-none k h = ap (λ (b : Bool). cond b (2 ^ k) 0) (lt-leb k maxExponent h)
+
+pub width-small : (k : ℕ) → widthOf k ≤ 256
+width-small k = go (decLe k maxExponent)
+  where
+    go : Dec (k ≤ maxExponent) → widthOf k ≤ 256
+    go (yes h) = rw (width-of k h) (width-le k h)
+    go (no h) = rw (width-none k (omega arith)) zero-le
 
 -- at most 256 gates a layer
 count-bound : (k : ℕ) (ks : List ℕ) → k ≤ maxExponent → allBelow (maxExponent + 1) ks ≡ true → gateCount k ks ≤ 256 * length ks
@@ -79,12 +95,9 @@ module _ (c : List ℕ) (d : ℕ) (h : Exponents c d) where
       let e : getD (exponents c) i 0 < maxExponent + 1 = below-each (maxExponent + 1) (exponents c) i (h .small) (omega (arith, length-exponents)) in
       omega (arith, e, exponent-word i l ∙ ap (λ (j : ℕ). getD (outputExponent ∷ exponents c) j 0) (add-one i))
 
-  -- what `width` of that word gives
-  pub width-at : (i r : ℕ) → i < d → (getD c (2 + i) 0 ≤ maxExponent → r ≡ 2 ^ getD c (2 + i) 0) → r ≡ 2 ^ exponentAt c (i + 1)
-  width-at i r l e = e (exponent-small i l) ∙ ap (λ (k : ℕ). 2 ^ k) (exponent-word i l)
-
-  pub width-small : (i r : ℕ) → i < d → (getD c (2 + i) 0 ≤ maxExponent → r ≡ 2 ^ getD c (2 + i) 0) → r ≤ 256
-  width-small i r l e = rw (e (exponent-small i l)) (width-le (getD c (2 + i) 0) (exponent-small i l))
+  -- the width that the word gives
+  pub width-at : (i : ℕ) → i < d → widthOf (getD c (2 + i) 0) ≡ 2 ^ exponentAt c (i + 1)
+  width-at i l = width-of (getD c (2 + i) 0) (exponent-small i l) ∙ ap (λ (k : ℕ). 2 ^ k) (exponent-word i l)
 
   -- the exponents from i on
   pub exponents-at : (i : ℕ) → i < d → drop i (exponents c) ≡ exponentAt c (i + 1) ∷ drop (i + 1) (exponents c)
@@ -130,25 +143,34 @@ module _ (c : List ℕ) (layer : ℕ) (h : LayerOf c layer) (pos : 0 < layer) wh
   shifted : 2 + (layer - 1) ≡ 1 + layer
   shifted = omega arith
 
-  pub layer-small : getD c (1 + layer) 0 ≤ maxExponent
+  layer-small : getD c (1 + layer) 0 ≤ maxExponent
   layer-small = subst (λ (i : ℕ). getD c i 0 ≤ maxExponent) shifted (exponent-small c (depth c) (h .headed) (layer - 1) (omega (arith, h .inside)))
 
-  pub layer-word : getD c (1 + layer) 0 ≡ exponentAt c layer
+  layer-word : getD c (1 + layer) 0 ≡ exponentAt c layer
   layer-word =
       let back : layer - 1 + 1 ≡ layer = omega arith in
       ap (λ (i : ℕ). getD c i 0) (sym shifted) ∙ exponent-word c (depth c) (h .headed) (layer - 1) (omega (arith, h .inside)) ∙ ap (exponentAt c) back
+
+  pub layer-width : widthOf (getD c (1 + layer) 0) ≡ 2 ^ exponentAt c layer
+  layer-width = width-of (getD c (1 + layer) 0) layer-small ∙ ap (λ (k : ℕ). 2 ^ k) layer-word
 
 -- k_D is word 1 + D
 module _ (c : List ℕ) (h : LegalCircuit c) where
   last-layer : LayerOf c (depth c)
   last-layer = record { headed = h .sized .headed; inside = le-refl (depth c) }
 
-  pub last-small : getD c (1 + depth c) 0 ≤ maxExponent
-  last-small = layer-small c (depth c) last-layer (h .some)
-
-  pub last-exponent : getD c (1 + depth c) 0 ≡ inputExponent c
+  pub last-small : inputExponent c ≤ maxExponent
   unfolding inputExponent
-  last-exponent = layer-word c (depth c) last-layer (h .some) ∙ ap (exponentAt c) (sym (length-exponents c (depth c) (h .sized .headed)))
+  last-small =
+      subst (λ (k : ℕ). k ≤ maxExponent)
+      (layer-word c (depth c) last-layer (h .some) ∙ ap (exponentAt c) (sym (length-exponents c (depth c) (h .sized .headed))))
+      (layer-small c (depth c) last-layer (h .some))
+
+  pub last-width : widthOf (getD c (1 + depth c) 0) ≡ inputCount c
+  unfolding inputExponent
+  last-width =
+      layer-width c (depth c) last-layer (h .some)
+      ∙ ap (λ (i : ℕ). 2 ^ exponentAt c i) (sym (length-exponents c (depth c) (h .sized .headed)))
 
   -- one gate in layer 0 and at most 256 in each of the others
   pub count-tight : gateCount outputExponent (exponents c) + 255 ≤ 256 * maxDepth

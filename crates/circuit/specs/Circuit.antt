@@ -2,9 +2,12 @@
 -- are total; what they give means something where the list is legal.
 -- Assumes nothing.
 use Prim.Native.Nat.{ℕ, zero, suc, _+_, _*_, _^_}
+use mathlib.Core.Bool.{cond}
 use mathlib.Core.List.{List, [], _∷_, map}
+use lib.Dec.{leb}
 use lib.ListN.{length, take, drop, getD}
 use Rattle.lists.specs.Count.{sum}
+use Rattle.circuit.specs.Limits.{maxExponent}
 use Rattle.circuit.specs.Gate.{Gate, gate}
 
 abbrev pub primeOf : List ℕ → ℕ
@@ -25,12 +28,16 @@ outputExponent = 0
 abbrev pub exponentAt : List ℕ → ℕ → ℕ
 exponentAt c i = getD (outputExponent ∷ exponents c) i 0
 
+-- "Layer i has 2^k gates for its width exponent": none where the exponent is too large
+unfoldable pub widthOf : ℕ → ℕ
+widthOf k = cond (leb k maxExponent) (2 ^ k) 0
+
 -- the first n gates of a list of words
 unfoldable pub gatesOf : ℕ → List ℕ → List Gate
 gatesOf zero ws = []
 gatesOf (suc n) ws = gate (getD ws 0 0) (getD ws 1 0) (getD ws 2 0) ∷ gatesOf n (drop 3 ws)
 
--- "Layer i has 2^k gates for its width exponent": the layers of exponent k and of those that follow it, the last one, the input, left out
+-- the layers of exponent k and of those that follow it, the last one, the input, left out
 unfoldable pub layersOf : ℕ → List ℕ → List ℕ → List (List Gate)
 layersOf k [] ws = []
 layersOf k (k′ ∷ ks) ws = gatesOf (2 ^ k) ws ∷ layersOf k′ ks (drop (3 * 2 ^ k) ws)

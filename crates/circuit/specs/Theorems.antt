@@ -7,10 +7,10 @@ use lib.ListN.{length}
 use Rattle.lists.specs.Each.{All}
 use Rattle.primes.specs.Prime.{Prime}
 use Rattle.algebra.specs.Numbers.{words}
-use Rattle.circuit.specs.Gate.{Gate, gateValue}
+use Rattle.circuit.specs.Gate.{gateValue}
 use Rattle.circuit.specs.Circuit.{primeOf, depth, exponentAt, gatesAt}
 use Rattle.circuit.specs.Legal.{loadAnswer, listsCause}
-use Rattle.circuit.specs.Evaluate.{layers, valuesAt, value}
+use Rattle.circuit.specs.Values.{layers, valuesAt, value}
 
 abbrev pub LegalPrime : Type 0
 LegalPrime = (c : List ℕ) → loadAnswer c ≡ 0 → Prime (primeOf c)

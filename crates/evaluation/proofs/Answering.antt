@@ -1,0 +1,65 @@
+-- Evaluate's answer and buffer, case by case.
+-- Assumes nothing.
+use Prim.Native.Nat.{ℕ, suc, _+_, _≤_, _<_}
+use mathlib.Core.Path.{_≡_, sym, ap, _∙_}
+use mathlib.Core.Bool.{Bool, true, cond}
+use mathlib.Core.List.{List, flatten}
+use native.Mathlib.Omega.{arith}
+use lib.Dec.{eqb, leb, eqb·suc-zero}
+use lib.ListN.{length, take, getD}
+use borrow.Author.Tests.{lt-leb, le-leb}
+use Rattle.lists.specs.Buffer.{over}
+use Rattle.refusal.specs.Number.{numberOf}
+use Rattle.refusal.specs.Order.{need, first}
+use Rattle.refusal.specs.declared.Cause.{Cause}
+use Rattle.refusal.specs.declared.Cause.the-variants.{BufferShort}
+use Rattle.refusal.proofs.Order.{refused-first, numbered-suc}
+use Rattle.circuit.specs.Limits.{maxValues}
+use Rattle.circuit.specs.Circuit.{valueCount, gateCount, outputExponent, exponents}
+use Rattle.circuit.specs.Legal.{listsCause}
+use Rattle.circuit.specs.Values.{layers, value}
+use Rattle.evaluation.specs.Evaluate.{output, refused, evaluated, evaluateCause, evaluateAnswer, evaluateBuffer, Evaluates}
+use Rattle.evaluation.specs.Layer.{AllValues}
+use Rattle.evaluation.specs.declared.Evaluated.the-variants.{Output, Refused}
+use Rattle.circuit.proofs.Loading.{LegalLists}
+use Rattle.evaluation.proofs.Evaluating.{total-fits, output-first}
+
+module _ (c input before : List ℕ) where
+  -- a cause, whatever it is, leaves the buffer
+  by-cause : (cause : Cause) → evaluateCause c input before ≡ numberOf cause → Evaluates c input before (Refused cause) before
+  unfolding evaluateAnswer evaluateBuffer
+  by-cause cause e =
+      let n : ℕ = numbered-suc cause .0 in
+      let s : numberOf cause ≡ suc n = numbered-suc cause .1 in
+      let written : List ℕ = over (flatten (layers c input)) before in
+      record {
+        answer = ap refused s ∙ sym (ap (λ (k : ℕ). evaluated k (value c input)) (e ∙ s));
+        buffer = sym (ap (λ (k : ℕ). cond (eqb k 0) written before) (e ∙ s) ∙ ap (λ (b : Bool). cond b written before) (eqb·suc-zero n));
+      }
+
+  pub left-lists : (cause : Cause) → numberOf cause ≡ listsCause c input → Evaluates c input before (Refused cause) before
+  unfolding evaluateCause
+  left-lists cause e = by-cause cause (refused-first cause (listsCause c input) (need (leb (valueCount c) (length before)) 10 0) e)
+
+  pub left-short : listsCause c input ≡ 0 → length before < valueCount c → Evaluates c input before (Refused BufferShort) before
+  unfolding evaluateCause
+  left-short e l = by-cause BufferShort (simp (e, lt-leb (valueCount c) (length before) l))
+
+  -- the values of all layers over the buffer
+  pub left-values : (total : ℕ) (values : List ℕ) → listsCause c input ≡ 0 → LegalLists c input → total ≡ valueCount c → total ≤ length before
+      → AllValues c input values → Evaluates c input before (Output (getD values 0 0)) (over (take total values) before)
+  unfolding evaluateAnswer evaluateBuffer evaluateCause
+  left-values total values e legal n l v =
+      let fits : leb (valueCount c) (length before) ≡ true = le-leb (valueCount c) (length before) (omega arith) in
+      let first : getD values 0 0 ≡ value c input = output-first c input (legal .circuit) (legal .sized) values (v .holds) in
+      record {
+        answer = simp (e, fits) (ap output first);
+        buffer = ap (λ (t : List ℕ). over t before) (ap (λ (m : ℕ). take m values) n ∙ v .holds) ∙ sym (simp (e, fits));
+      }
+
+  pub total-values : (gates : ℕ) → gates ≡ gateCount outputExponent (exponents c) → LegalLists c input → gates + length input ≡ valueCount c
+  unfolding valueCount
+  total-values gates e legal = omega (arith, e, legal .sized)
+
+  pub total-room : LegalLists c input → valueCount c ≤ maxValues
+  total-room legal = total-fits c input (legal .circuit) (legal .sized)

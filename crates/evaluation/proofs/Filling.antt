@@ -1,0 +1,120 @@
+-- Laws of a layer that is filled: its gates by their words, and their values.
+-- Assumes nothing.
+use Prim.Native.Nat.{ℕ, zero, suc, _+_, _-_, _*_, _≤_, _<_}
+use mathlib.Core.Path.{_≡_, refl, sym, ap, ap₂, _∙_}
+use mathlib.Core.List.{List, [], _∷_, map}
+use native.Mathlib.Nat.{le-of-suc-le-suc, sub-zero, suc-sub-suc}
+use native.Mathlib.Omega.{arith}
+use lib.ListN.{length, getD, set, take, drop, length-map}
+use lib.Seq.{getD-drop, getD-take, length-take-le, take-nil}
+use Rattle.lists.specs.Buffer.{over}
+use Rattle.lists.proofs.Buffer.{over-next, getD-over-after}
+use Rattle.refusal.proofs.Order.{first-none}
+use Rattle.algebra.specs.Numbers.{Numbers, words}
+use Rattle.circuit.proofs.Legal.{gate-wires, gates-wires, length-gates}
+use Rattle.circuit.specs.Gate.{Gate, gate, operate, gateValue}
+use Rattle.circuit.specs.Circuit.{gatesOf}
+use Rattle.circuit.specs.Legal.{gateCause, gatesCause}
+use Rattle.evaluation.specs.Layer.{layerValues}
+
+getD-map-lt : {A B : Type 0} (f : A → B) (l : List A) (i : ℕ) (d : B) (e : A) → i < length l → getD (map f l) i d ≡ f (getD l i e)
+getD-map-lt f [] i d e h = absurd (omega arith)
+getD-map-lt f (x ∷ l) zero d e h = refl
+getD-map-lt f (x ∷ l) (suc i) d e h = getD-map-lt f l i d e (le-of-suc-le-suc h)
+
+-- gate i is words 3 i to 3 i + 2
+gate-words : (n i : ℕ) (ws : List ℕ) (e : Gate) → i < n
+    → getD (gatesOf n ws) i e ≡ gate (getD ws (3 * i) 0) (getD ws (3 * i + 1) 0) (getD ws (3 * i + 2) 0)
+unfolding gatesOf
+gate-words zero i ws e h = absurd (omega arith)
+gate-words (suc n) zero ws e h = refl
+gate-words (suc n) (suc i) ws e h =
+    let (a, b, d) = shifts in
+    gate-words n i (drop 3 ws) e (le-of-suc-le-suc h) ∙ rw (a, b, d)
+  where
+    shift : (j : ℕ) → getD (drop 3 ws) j 0 ≡ getD ws (3 + j) 0
+    shift j = getD-drop 3 ws j 0
+
+    shifts : (getD (drop 3 ws) (3 * i) 0 ≡ getD ws (3 * suc i) 0) × (getD (drop 3 ws) (3 * i + 1) 0 ≡ getD ws (3 * suc i + 1) 0)
+        × (getD (drop 3 ws) (3 * i + 2) 0 ≡ getD ws (3 * suc i + 2) 0)
+    shifts =
+        let e0 : 3 + 3 * i ≡ 3 * suc i = omega arith in
+        let e1 : 3 + (3 * i + 1) ≡ 3 * suc i + 1 = omega arith in
+        let e2 : 3 + (3 * i + 2) ≡ 3 * suc i + 2 = omega arith in
+        (shift (3 * i) ∙ ap (λ (k : ℕ). getD ws k 0) e0, shift (3 * i + 1) ∙ ap (λ (k : ℕ). getD ws k 0) e1, shift (3 * i + 2) ∙ ap (λ (k : ℕ). getD ws k 0) e2)
+
+-- in terms of words
+pub wires-below : (next n i : ℕ) (ws : List ℕ) → gatesCause next (gatesOf n ws) ≡ 0 → i < n
+    → (getD ws (3 * i + 1) 0 < next) × (getD ws (3 * i + 2) 0 < next)
+wires-below next n i ws e h =
+    let none : Gate = gate 0 0 0 in
+    let w = gates-wires next (gatesOf n ws) i none e (omega (arith, length-gates n ws)) in
+    let g = gate-words n i ws none h in
+    (rw (ap (λ (x : Gate). x .left) g) at (w .left), rw (ap (λ (x : Gate). x .right) g) at (w .right))
+
+module _ (N : Numbers ℕ) (count : ℕ) (gates values : List ℕ) where
+  pub length-layer : length (layerValues N count gates values) ≡ count
+  unfolding layerValues
+  length-layer = length-map (gatesOf count gates) (gateValue N (drop count values)) ∙ length-gates count gates
+
+pub layer-at : (p count : ℕ) (gates values : List ℕ) (i : ℕ) → i < count
+    → getD (layerValues (words p) count gates values) i 0
+    ≡ operate (words p) (getD gates (3 * i) 0) (getD values (count + getD gates (3 * i + 1) 0) 0) (getD values (count + getD gates (3 * i + 2) 0) 0)
+unfolding layerValues gateValue
+layer-at p count gates values i h =
+    let none : Gate = gate 0 0 0 in
+    getD-map-lt (gateValue (words p) (drop count values)) (gatesOf count gates) i 0 none (omega (arith, length-gates count gates))
+    ∙ ap (gateValue (words p) (drop count values)) (gate-words count i gates none h)
+    ∙ ap₂ (operate (words p) (getD gates (3 * i) 0)) (getD-drop count values (getD gates (3 * i + 1) 0) 0) (getD-drop count values (getD gates (3 * i + 2) 0) 0)
+
+-- what is neither 1 nor 2 gives 0
+pub operate-other : (p kind x y : ℕ) → (kind ≡ 1 → ⊥) → (kind ≡ 2 → ⊥) → operate (words p) kind x y ≡ 0
+operate-other p zero x y a b = refl
+operate-other p (suc zero) x y a b = absurd (a refl)
+operate-other p (suc (suc zero)) x y a b = absurd (b refl)
+operate-other p (suc (suc (suc kind))) x y a b = refl
+
+-- one value more: it is read behind the places that are filled, which still hold what they held
+pub fill-step : (p count : ℕ) (gates before values : List ℕ) (i r : ℕ) → i < count → count ≤ length before
+    → values ≡ over (take i (layerValues (words p) count gates before)) before
+    → r ≡ operate (words p) (getD gates (3 * i) 0) (getD values (count + getD gates (3 * i + 1) 0) 0) (getD values (count + getD gates (3 * i + 2) 0) 0)
+    → set values i r ≡ over (take (i + 1) (layerValues (words p) count gates before)) before
+fill-step p count gates before values i r h fits e v =
+    let layer : List ℕ = layerValues (words p) count gates before in
+    let size : length layer ≡ count = length-layer (words p) count gates before in
+    let kept : (j : ℕ) → getD values (count + j) 0 ≡ getD before (count + j) 0 =
+    λ j. ap (λ (l : List ℕ). getD l (count + j) 0) e
+    ∙ getD-over-after (take i layer) before (count + j) 0 (omega (arith, length-take-le i layer (omega arith))) in
+    let same : r ≡ getD layer i 0 =
+    v ∙ ap₂ (operate (words p) (getD gates (3 * i) 0)) (kept (getD gates (3 * i + 1) 0)) (kept (getD gates (3 * i + 2) 0))
+    ∙ sym (layer-at p count gates before i h) in
+    ap₂ (λ (l : List ℕ) (x : ℕ). set l i x) e same ∙ over-next layer before i 0 (omega arith) (omega arith)
+
+-- gates whose wires are below `next` see no more of the values
+pub values-agree : (p next : ℕ) (gs : List Gate) (v w : List ℕ) → gatesCause next gs ≡ 0
+    → ((i : ℕ) → i < next → getD v i 0 ≡ getD w i 0) → map (gateValue (words p) v) gs ≡ map (gateValue (words p) w) gs
+unfolding gatesCause gateValue
+values-agree p next [] v w e same = refl
+values-agree p next (g ∷ gs) v w e same =
+    let parts = first-none (gateCause next g) (gatesCause next gs) e in
+    let wires = gate-wires next g (parts .0) in
+    ap₂ (λ (x : ℕ) (l : List ℕ). x ∷ l)
+    (ap₂ (operate (words p) (g .kind)) (same (g .left) (wires .left)) (same (g .right) (wires .right)))
+    (values-agree p next gs v w (parts .1) same)
+
+-- the gates of a part that has all their words
+pub gates-part : (n m : ℕ) (ws : List ℕ) → 3 * n ≤ m → gatesOf n (take m ws) ≡ gatesOf n ws
+unfolding gatesOf
+gates-part zero m ws h = refl
+gates-part (suc n) m ws h =
+    let three : drop 3 (take m ws) ≡ take (m - 3) (drop 3 ws) = drop-take 3 m ws (omega arith) in
+    let zeroth : getD (take m ws) 0 0 ≡ getD ws 0 0 = getD-take m ws 0 0 (omega arith) in
+    let first : getD (take m ws) 1 0 ≡ getD ws 1 0 = getD-take m ws 1 0 (omega arith) in
+    let second : getD (take m ws) 2 0 ≡ getD ws 2 0 = getD-take m ws 2 0 (omega arith) in
+    rw (zeroth, first, second, three, gates-part n (m - 3) (drop 3 ws) (omega arith))
+  where
+    drop-take : (a b : ℕ) (l : List ℕ) → a ≤ b → drop a (take b l) ≡ take (b - a) (drop a l)
+    drop-take zero b l q = ap (λ (k : ℕ). take k l) (sym (sub-zero b))
+    drop-take (suc a) zero l q = absurd (omega arith)
+    drop-take (suc a) (suc b) [] q = sym (take-nil (suc b - suc a))
+    drop-take (suc a) (suc b) (x ∷ l) q = drop-take a b l (omega arith) ∙ ap (λ (k : ℕ). take k (drop a l)) (sym (suc-sub-suc b a))

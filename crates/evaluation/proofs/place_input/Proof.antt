@@ -1,0 +1,41 @@
+-- `place_input` meets its contract: the words are put over the rest of an array from their place on.
+-- Assumes nothing.
+use Prim.Native.Nat.{ℕ}
+use lib.ListN.{replicate, length-replicate}
+use Rattle.circuit.specs.Limits.{maxValues}
+use Rattle.evaluation.proofs.Evaluating.{placed}
+use borrow.Author.Needs.{needs}
+use Rattle.evaluation.proofs.place_input.Statement.{statement}
+use Rattle.evaluation.proofs.place_input.Tie as tie
+
+mul-values : tie.Need-mul-values
+mul-values c = search needs
+
+sub-copy-front : tie.Need-sub-copy-front
+sub-copy-front c = search needs
+
+part-values-start : tie.Need-part-values-start
+part-values-start c = search needs
+
+part-values-end : tie.Need-part-values-end
+part-values-end c = search needs
+
+copy-front-requires : tie.Need-copy-front-requires
+copy-front-requires c κs = search needs
+
+returns : tie.Need-returns
+returns c =
+    let a = c .before .before .before .before .args in
+    placed (replicate {A = ℕ} maxValues 0) (c .before .copy-front .last .0) (a .input .now) (a .at) (length-replicate {A = ℕ} maxValues 0)
+    (c .before .before .before .before .pre) (c .before .copy-front .ensures)
+
+pub place-input-spec : {M : Type 1} → statement M
+place-input-spec =
+    tie.close
+    (tie.spec
+    mul-values
+    sub-copy-front
+    part-values-start
+    part-values-end
+    copy-front-requires
+    returns)

@@ -1,0 +1,118 @@
+// Evaluation: the values of a circuit's gates.
+use field::Field;
+use refusal::Cause;
+use refusal::Checked;
+ghost use mathlib.Core.Path.{_≡_};
+ghost use Prim.Native.Nat.{_+_, _^_, _≤_};
+ghost use lib.ListN.{length};
+ghost use Rattle.lists.specs.Buffer.{over};
+ghost use Rattle.field.specs.Modulus.{numbers};
+ghost use Rattle.circuit.specs.Limits.{maxValues};
+ghost use Rattle.circuit.specs.Gate.{operate};
+ghost use Rattle.circuit.specs.Circuit.{exponentAt, inputCount};
+ghost use Rattle.circuit.specs.Sized.{LayerOf, LegalCircuit};
+ghost use Rattle.evaluation.specs.Layer.{layerValues, AllValues, Fillable, Placed};
+ghost use Rattle.evaluation.specs.Evaluate.{Evaluates};
+
+// The gate and input words of the largest circuit.
+pub const MAX_VALUES: usize = 4097;
+
+// A gate's value from those of its wires.
+pub fn gate_value(f: Field, kind: u32, x: u32, y: u32) -> u32
+    ensures { λ r. ⌜ r ≡ operate (numbers f) kind x y ⌝ }
+{
+    match kind {
+        1 => f.add(x, y),
+        2 => f.mul(x, y),
+        _ => 0,
+    }
+}
+
+// Writes the values of `gates` over the front of `values`, behind which stand the next layer's, `next` of them.
+fn fill_layer(f: Field, gates: &[u32], count: usize, next: usize, values: &mut [u32])
+    requires { ⌜ Fillable (now gates) count next (now values) ⌝ }
+    ensures { λ _. ⌜ now (values .exit) ≡ over (layerValues (numbers f) count (now (gates .entry)) (now (values .entry))) (now (values .entry)) ⌝ }
+{
+    for i in 0..count {
+        let g = 3 * i;
+        let x = values[count + gates[g + 1] as usize];
+        let y = values[count + gates[g + 2] as usize];
+        values[i] = gate_value(f, gates[g], x, y);
+    }
+}
+
+// Writes `words` over the front of a buffer.
+fn copy_front(buffer: &mut [u32], words: &[u32])
+    requires { ⌜ length (now words) ≤ length (now buffer) ⌝ }
+    ensures { λ _. ⌜ now (buffer .exit) ≡ over (now (words .entry)) (now (buffer .entry)) ⌝ }
+{
+    for i in 0..words.len() {
+        buffer[i] = words[i];
+    }
+}
+
+// The number of gates of a layer.
+fn layer_width(circuit: &[u32], layer: usize) -> usize
+    requires { ⌜ LayerOf (now circuit) layer ⌝ }
+    ensures { λ r. ⌜ r ≡ 2 ^ exponentAt (now (circuit .entry)) layer ⌝ }
+{
+    if layer == 0 {
+        return 1;
+    }
+    legality::width(circuit[1 + layer])
+}
+
+// A working array with the input in its place.
+fn place_input(input: &[u32], at: usize) -> [u32; MAX_VALUES]
+    requires { ⌜ at + length (now input) ≤ maxValues ⌝ }
+    ensures { λ r. ⌜ Placed (now (input .entry)) at r ⌝ }
+{
+    let mut values = [0u32; MAX_VALUES];
+    copy_front(&mut values[at..], input);
+    values
+}
+
+// The values of all layers, the output's first, in a working array that is filled from the input up.
+fn all_values(circuit: &[u32], input: &[u32]) -> [u32; MAX_VALUES]
+    requires { ⌜ LegalCircuit (now circuit) × (length (now input) ≡ inputCount (now circuit)) ⌝ }
+    ensures { λ r. ⌜ AllValues (now (circuit .entry)) (now (input .entry)) r ⌝ }
+{
+    let f = Field::of(circuit[0]);
+    let depth = circuit[1] as usize;
+    let start = 2 + depth;
+    let mut at = legality::gate_count(circuit);
+    let mut values = place_input(input, at);
+    let mut next = input.len();
+    for i in 0..depth {
+        let count = layer_width(circuit, depth - 1 - i);
+        at -= count;
+        let from = start + 3 * at;
+        let to = from + 3 * count;
+        fill_layer(f, &circuit[from..to], count, next, &mut values[at..]);
+        next = count;
+    }
+    values
+}
+
+// What an evaluation answers.
+pub enum Evaluated {
+    Output(u32),
+    Refused(Cause),
+}
+
+// Evaluate: the output, with the values of layers 0 to D at the front of the buffer, or the first refusal of 1 to 10.
+pub fn evaluate(circuit: &[u32], input: &[u32], buffer: &mut [u32]) -> Evaluated
+    ensures { λ r. ⌜ Evaluates (now (circuit .entry)) (now (input .entry)) (now (buffer .entry)) r (now (buffer .exit)) ⌝ }
+{
+    let checked = legality::check_lists(circuit, input);
+    if let Checked::Refused(cause) = checked {
+        return Evaluated::Refused(cause);
+    }
+    let total = legality::gate_count(circuit) + input.len();
+    if buffer.len() < total {
+        return Evaluated::Refused(Cause::BufferShort);
+    }
+    let values = all_values(circuit, input);
+    copy_front(buffer, &values[..total]);
+    Evaluated::Output(values[0])
+}

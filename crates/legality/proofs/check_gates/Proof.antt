@@ -1,0 +1,119 @@
+-- `check_gates` meets its contract: what is left from gate i on decides as all the gates do.
+-- Assumes nothing.
+use Prim.Native.Nat.{ℕ, _≤_, _-_, _+_, _*_}
+use mathlib.Core.Path.{_≡_, sym, ap, ap₂, _∙_}
+use native.Mathlib.Nat.{sub-zero, add-zero}
+use Rattle.refusal.specs.Number.{causeOf}
+use borrow.Author.Needs.{needs}
+use lib.ListN.{drop}
+use Rattle.refusal.proofs.Order.{refused-first, legal-first}
+use Rattle.circuit.specs.Circuit.{gatesOf}
+use Rattle.circuit.specs.Legal.{gatesCause}
+use Rattle.circuit.proofs.Legal.{gates-at, gates-end}
+use Rattle.legality.proofs.check_gates.Statement.{statement}
+use Rattle.legality.proofs.check_gates.Tie as tie
+
+abbrev Inv-loop : tie.InvT-loop
+Inv-loop circuit at count next i₀ i =
+    (i ≤ count) × (gatesCause next (gatesOf count (drop at circuit)) ≡ gatesCause next (gatesOf (count - i) (drop (at + 3 * i) circuit)))
+
+abbrev μ-loop : tie.MeasureT-loop
+μ-loop circuit at count next i₀ i = count - i
+
+loop-holds : tie.Need-loop-holds Inv-loop μ-loop
+loop-holds c =
+    let a = c .before .args in
+    (search needs, ap₂ (λ (n k : ℕ). gatesCause (a .next) (gatesOf n (drop k (a .circuit .now)))) (sym (sub-zero (a .count))) (sym (add-zero (a .at))))
+
+mul-place : tie.Need-mul-place Inv-loop μ-loop
+mul-place c = search needs
+
+add-place : tie.Need-add-place Inv-loop μ-loop
+add-place c = search needs
+
+mul-check-gate : tie.Need-mul-check-gate Inv-loop μ-loop
+mul-check-gate c = search needs
+
+shared-slice-read-check-gate : tie.Need-shared-slice-read-check-gate Inv-loop μ-loop
+shared-slice-read-check-gate c = search needs
+
+add-check-gate : tie.Need-add-check-gate Inv-loop μ-loop
+add-check-gate c = search needs
+
+mul-check-gate-2 : tie.Need-mul-check-gate-2 Inv-loop μ-loop
+mul-check-gate-2 c = search needs
+
+shared-slice-read-check-gate-2 : tie.Need-shared-slice-read-check-gate-2 Inv-loop μ-loop
+shared-slice-read-check-gate-2 c = search needs
+
+add-check-gate-2 : tie.Need-add-check-gate-2 Inv-loop μ-loop
+add-check-gate-2 c = search needs
+
+mul-check-gate-3 : tie.Need-mul-check-gate-3 Inv-loop μ-loop
+mul-check-gate-3 c = search needs
+
+shared-slice-read-check-gate-3 : tie.Need-shared-slice-read-check-gate-3 Inv-loop μ-loop
+shared-slice-read-check-gate-3 c = search needs
+
+check-gate-requires : tie.Need-check-gate-requires Inv-loop μ-loop
+check-gate-requires c κs = search needs
+
+enum-known-checked : tie.Need-enum-known-checked Inv-loop μ-loop
+enum-known-checked c = search needs
+
+returns : tie.Need-returns Inv-loop μ-loop
+returns c =
+    let at = c .before .before .before .before .before .before .before .before in
+    let a = at .before .before .args in
+    let checked = c .before .checked .given in
+    sym (at .loop .inv .1 ∙ gates-at (a .next) (a .count) (at .loop .i) (a .at) (a .circuit .now) (search needs)
+    ∙ refused-first (checked .0 .0) _ _ (sym (ap causeOf (checked .1)) ∙ c .before .before .before .check-gate .ensures))
+
+enum-told : tie.Need-enum-told Inv-loop μ-loop
+enum-told c = search needs
+
+add-i : tie.Need-add-i Inv-loop μ-loop
+add-i c = search needs
+
+loop-less : tie.Need-loop-less Inv-loop μ-loop
+loop-less c = search needs
+
+loop-again : tie.Need-loop-again Inv-loop μ-loop
+loop-again c =
+    let at = c .before .before .before .before .before .before .before in
+    let a = at .before .before .args in (
+      search needs,
+      at .loop .inv .1 ∙ gates-at (a .next) (a .count) (at .loop .i) (a .at) (a .circuit .now) (search needs)
+          ∙ legal-first _ _ (sym (ap causeOf (c .enum-told .given .1)) ∙ c .before .before .check-gate .ensures),
+    )
+
+returns-2 : tie.Need-returns-2 Inv-loop μ-loop
+returns-2 c =
+    let a = c .before .before .before .args in
+    sym (c .before .loop .inv .1 ∙ gates-end (a .next) (a .count) (c .before .loop .i) _ (search needs))
+
+pub check-gates-spec : {M : Type 1} → statement M
+check-gates-spec =
+    tie.close
+    (tie.spec
+    Inv-loop
+    μ-loop
+    loop-holds
+    mul-place
+    add-place
+    mul-check-gate
+    shared-slice-read-check-gate
+    add-check-gate
+    mul-check-gate-2
+    shared-slice-read-check-gate-2
+    add-check-gate-2
+    mul-check-gate-3
+    shared-slice-read-check-gate-3
+    check-gate-requires
+    enum-known-checked
+    returns
+    enum-told
+    add-i
+    loop-less
+    loop-again
+    returns-2)
