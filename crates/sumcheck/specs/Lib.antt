@@ -1,0 +1,3 @@
+pub mod Summand
+pub mod Message
+pub mod Theorems
