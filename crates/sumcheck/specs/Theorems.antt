@@ -24,7 +24,7 @@ abbrev pub SumOfTwo : Type 0
 SumOfTwo =
     (p k : ℕ) (gs : List Gate) (point vs xs : List ℕ) → length xs < 2 * k
     → partialSum (words p) k gs point vs xs
-      ≡ words p .add (partialSum (words p) k gs point vs (xs ++ (0 ∷ []))) (partialSum (words p) k gs point vs (xs ++ (1 ∷ [])))
+    ≡ words p .add (partialSum (words p) k gs point vs (xs ++ (0 ∷ []))) (partialSum (words p) k gs point vs (xs ++ (1 ∷ [])))
 
 -- the honest sum message evaluates to the partial sum with the coin appended
 abbrev pub SumMessageValue : Type 0
@@ -43,7 +43,7 @@ abbrev pub LineEnds : Type 0
 LineEnds =
     (p : ℕ) → 0 < p → (vs u v : List ℕ) → length u ≡ length v
     → (extension (words p) vs (linePoint (words p) u v 0) ≡ extension (words p) vs u)
-      × (extension (words p) vs (linePoint (words p) u v 1) ≡ extension (words p) vs v)
+    × (extension (words p) vs (linePoint (words p) u v 1) ≡ extension (words p) vs v)
 
 -- exact lengths, and residues as words
 abbrev pub SumMessageWords : Type 0
