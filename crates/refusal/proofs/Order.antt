@@ -7,7 +7,8 @@ use native.Mathlib.Nat.{suc-ne-zero}
 use Rattle.refusal.specs.Number.{numberOf}
 use Rattle.refusal.specs.Order.{need, first}
 use Rattle.refusal.specs.declared.Cause.{Cause}
-use Rattle.refusal.specs.declared.Cause.the-variants.{HeaderShort, PrimeUnlisted, DepthRange, ExponentRange, WordCount, GateKind, GateWires, InputCount, InputWord, BufferShort, CoinCount, CoinWord, OutputWord, MessageLength, MessageWord, RoundDiffers, LineDiffers, InputDiffers, RecordUnfit, BytesUnfit}
+use Rattle.refusal.specs.declared.Cause.the-variants.{HeaderShort, PrimeUnlisted, DepthRange, ExponentRange, WordCount, GateKind, GateWires, InputCount, InputWord, BufferShort}
+use Rattle.refusal.specs.declared.Cause.the-variants.{CoinCount, CoinWord, OutputWord, MessageLength, MessageWord, RoundDiffers, LineDiffers, InputDiffers, RecordUnfit, BytesUnfit}
 
 -- each number is above 0
 numbered : (cause : Cause) (rest : ℕ) → first (numberOf cause) rest ≡ numberOf cause
