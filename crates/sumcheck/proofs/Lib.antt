@@ -1,0 +1,6 @@
+pub mod Cube
+pub mod Hom
+pub mod Layer
+pub mod Degree
+pub mod Message
+pub mod Words
