@@ -15,7 +15,7 @@ use Rattle.refusal.proofs.Order.{first-none}
 use Rattle.algebra.specs.Numbers.{Numbers, words}
 use Rattle.circuit.specs.Gate.{Gate, operate, gateValue}
 use Rattle.circuit.specs.Circuit.{primeOf, depth, exponents, outputExponent, gatesStart, gatesOf, layersOf, gateLayers, gatesAt, inputExponent}
-use Rattle.circuit.specs.Legal.{allBelow, gateCause, gatesCause, layersCause}
+use Rattle.circuit.specs.Legal.{allBelow, gateCause, gatesCause, layersCause, listsCause}
 use Rattle.circuit.specs.Values.{layersFrom, layers, valuesAt, value}
 use Rattle.circuit.specs.Theorems.{LegalPrime, ValuesAreResidues, LayerSizes, LastLayer, LayerByLayer, WiresBelow, OutputLayer}
 use Rattle.circuit.proofs.Sized.{length-exponents}
@@ -142,3 +142,15 @@ single (x ∷ y ∷ l) e = absurd (omega arith)
 pub output-layer : OutputLayer
 unfolding value
 output-layer c input e = single (valuesAt c input 0) (layer-sizes c input e 0 (omega arith))
+
+-- the circuit's value is a residue
+first-below : (p : ℕ) → 0 < p → (ls : List (List ℕ)) → All (λ layer. All (λ v. v < p) layer) ls → getD (getD ls 0 []) 0 0 < p
+first-below p pos [] h = pos
+first-below p pos ([] ∷ ls) h = pos
+first-below p pos ((v ∷ vs) ∷ ls) h = h .0 .0
+
+pub value-below : (c input : List ℕ) → listsCause c input ≡ 0 → value c input < primeOf c
+unfolding value valuesAt
+value-below c input e =
+    let two = listed-prime (primeOf c) (legal-lists c input e .circuit .listed) .two-le in
+    first-below (primeOf c) (omega arith) (layers c input) (values-are-residues c input e)
