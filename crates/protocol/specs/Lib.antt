@@ -1,0 +1,6 @@
+pub mod Rounds
+pub mod Judge
+pub mod Check
+pub mod Session
+pub mod Prove
+pub mod Accept
