@@ -1,3 +1,5 @@
 pub mod Rounds
 pub mod Points
+pub mod Sums
 pub mod Truth
+pub mod Descent

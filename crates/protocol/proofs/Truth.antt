@@ -63,7 +63,7 @@ sum-fixed p k gs point vs xs e =
     rw (z, append-nil xs)
 
 module _ (c input : List ℕ) (legal : listsCause c input ≡ 0) where
-  loaded : loadAnswer c ≡ 0
+  pub loaded : loadAnswer c ≡ 0
   unfolding listsCause
   loaded = first-none (loadAnswer c) _ legal .0
 

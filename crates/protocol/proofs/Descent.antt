@@ -1,0 +1,190 @@
+-- The walk down a legal circuit. A claim that is not the true one stays false but for as many coins as the message has coefficients, less one:
+-- the message that passed is not the honest one, and the two agree at few points. A true claim stays true with the honest messages.
+-- Assumes nothing.
+use Prim.Native.Nat.{ℕ, zero, suc, _+_, _-_, _*_, _^_, _≤_, _<_, zero-le}
+use mathlib.Core.Path.{_≡_, refl, sym, ap, _∙_, subst}
+use mathlib.Core.Bool.{Bool, true, false, _&&_, cond, true≢false}
+use mathlib.Core.List.{List, [], _∷_, _++_, map}
+use native.Mathlib.Nat.{le-refl, le-trans, le-of-eq, not-suc-le-zero, suc-ne-zero}
+use native.Mathlib.Numerals.{add-one}
+use native.Mathlib.Omega.{arith}
+use lib.Dec.{eqb}
+use lib.ListN.{length, length-append}
+use borrow.Author.Tests.{eq-eqb, ne-eqb, eqb-true}
+use Rattle.lists.specs.Each.{All}
+use Rattle.lists.specs.Count.{sum, count, range}
+use Rattle.lists.proofs.Count.{sum-nil, count-same, all-range}
+use Rattle.algebra.specs.Numbers.{words}
+use Rattle.algebra.specs.Polynomial.{valueAt}
+use Rattle.algebra.proofs.Roots.{root-bound}
+use Rattle.counting.specs.Coins.{CoinList, passing}
+use Rattle.counting.specs.Doomed.{luckless}
+use Rattle.refusal.specs.Order.{need}
+use Rattle.refusal.proofs.Order.{first-none, need-none}
+use Rattle.circuit.specs.Circuit.{primeOf, exponents, exponentAt, coinCount, exponentSum}
+use Rattle.circuit.specs.Legal.{allBelow, loadAnswer, listsCause}
+use Rattle.circuit.specs.Values.{value}
+use Rattle.circuit.proofs.Layers.{legal-prime, all-below}
+use Rattle.walk.specs.Game.{passes}
+use Rattle.walk.specs.Rule.{Strategy, Fits, play, byRule}
+use Rattle.walk.specs.Session.{Follows, Chain}
+use Rattle.walk.proofs.Play.{play-count, play-sharp, play-complete}
+use Rattle.protocol.specs.Rounds.{Place, place, roundsOf, roundsFrom, rounds, isLine, placeAfter}
+use Rattle.protocol.specs.Judge.{messageAt, messageLength, compared, judge, inputAgrees, descent}
+use Rattle.protocol.specs.Prove.{honest}
+use Rattle.protocol.proofs.Rounds.{chain-all, length-rounds}
+use Rattle.protocol.proofs.Sums.{lossOf, loss-more, all-losses}
+use Rattle.protocol.proofs.Truth.{Here, truthAt, truth, loaded, honest-words, honest-compared, honest-next, some-layer, first-truth}
+
+-- THE JUDGEMENT, taken apart and put together
+pub judged : (c : List ℕ) (r : Place) (past : List ℕ) (claim : ℕ) (m : List ℕ) → judge c r past claim m ≡ 0
+    → (length m ≡ messageLength c r) × (allBelow (primeOf c) m ≡ true) × (compared c (isLine c r) r past m ≡ claim)
+unfolding judge
+judged c r past claim m e =
+    let long = need-none (eqb (length m) (messageLength c r)) 13 _ e in
+    let small = need-none (allBelow (primeOf c) m) 14 _ (long .1) in
+    (eqb-true (length m) (messageLength c r) (long .0), small .0, eqb-true _ claim (equal (eqb (compared c (isLine c r) r past m) claim) (isLine c r) (small .1)))
+  where
+    equal : (b l : Bool) → need b (cond l 17 16) 0 ≡ 0 → b ≡ true
+    equal true l q = refl
+    equal false true q = absurd (suc-ne-zero 16 q)
+    equal false false q = absurd (suc-ne-zero 15 q)
+
+pub passed : (c : List ℕ) (r : Place) (past : List ℕ) (claim : ℕ) (m : List ℕ)
+    → length m ≡ messageLength c r → allBelow (primeOf c) m ≡ true → compared c (isLine c r) r past m ≡ claim → judge c r past claim m ≡ 0
+unfolding judge
+passed c r past claim m long small e =
+    rw (eq-eqb (length m) (messageLength c r) long, small, eq-eqb (compared c (isLine c r) r past m) claim e)
+
+module _ (c input : List ℕ) where
+  -- STANDING at a round: the rounds left follow one another from here
+  unfoldable pub At : List Place → List ℕ → Type 0
+  At [] past = Unit {0}
+  At (r ∷ rs) past = Here c r past
+
+  unfoldable pub Stands : List Place → List ℕ → Type 0
+  Stands rs past = Chain (descent c input) rs (length past) × At rs past
+
+  pub stands-follows : (r : Place) (rs : List Place) (past : List ℕ) → Stands (r ∷ rs) past → Follows (descent c input) r rs
+  unfolding Stands Chain
+  stands-follows r rs past s = s .0 .1
+
+  pub stands-here : (r : Place) (rs : List Place) (past : List ℕ) → Stands (r ∷ rs) past → Here c r past
+  unfolding Stands At
+  stands-here r rs past s = s .1
+
+  -- the round after a round that is not the last
+  after-here : (i j : ℕ) (b : Bool) (past past′ : List ℕ) → isLine c (place i j) ≡ b → (b && eqb i (length (exponents c))) ≡ false → Here c (place i j) past
+      → (r : Place) → cond b (place (suc i) 0) (place i (suc j)) ≡ r → descent c input .before r ≡ length past′ → Here c r past′
+  unfolding descent
+  after-here i j false past past′ eb nl h r er n =
+      let ne : ¬ (j ≡ 2 * exponentAt c i) = λ (q : j ≡ 2 * exponentAt c i). true≢false (sym (eq-eqb j (2 * exponentAt c i) q) ∙ eb) in
+      let le : j ≤ 2 * exponentAt c i = h .reached in
+      record {
+        above = subst (λ (x : Place). 0 < x .layer) er (h .above);
+        within = subst (λ (x : Place). x .layer ≤ length (exponents c)) er (h .within);
+        reached = subst (λ (x : Place). x .round ≤ 2 * exponentAt c (x .layer)) er (omega arith);
+        counted = n;
+      }
+  after-here i j true past past′ eb nl h r er n =
+      let ne : ¬ (i ≡ length (exponents c)) = λ (q : i ≡ length (exponents c)). true≢false (sym (eq-eqb i (length (exponents c)) q) ∙ nl) in
+      let le : i ≤ length (exponents c) = h .within in
+      record {
+        above = subst (λ (x : Place). 0 < x .layer) er (omega arith);
+        within = subst (λ (x : Place). x .layer ≤ length (exponents c)) er (omega arith);
+        reached = subst (λ (x : Place). x .round ≤ 2 * exponentAt c (x .layer)) er zero-le;
+        counted = n;
+      }
+
+  pub stands-next : (r : Place) (rs : List Place) (past : List ℕ) (t : ℕ) → Stands (r ∷ rs) past → Stands rs (past ++ (t ∷ []))
+  unfolding Stands At Chain descent
+  stands-next r [] past t s = (tt, tt)
+  stands-next r (r′ ∷ rs) past t s =
+      let longer : length (past ++ (t ∷ [])) ≡ suc (length past) = length-append past (t ∷ []) ∙ add-one (length past) in
+      let chain : Chain (descent c input) (r′ ∷ rs) (length (past ++ (t ∷ []))) = subst (Chain (descent c input) (r′ ∷ rs)) (sym longer) (s .0 .2) in
+      (chain, after-here (r .layer) (r .round) (isLine c r) past (past ++ (t ∷ [])) refl (s .0 .1 .0) (s .1) r′ (s .0 .1 .1) (chain .0))
+
+  -- the first round of a circuit with a layer
+  head-of : (ks : List ℕ) → 0 < length ks → (rs : List Place) × (roundsFrom 1 ks ≡ place 1 0 ∷ rs)
+  unfolding roundsFrom roundsOf
+  head-of [] h = absurd (not-suc-le-zero h)
+  head-of (k ∷ ks) h = go (2 * k)
+    where
+      go : (n : ℕ) → (rs : List Place) × (roundsOf 1 0 n ++ roundsFrom 2 ks ≡ place 1 0 ∷ rs)
+      go zero = (roundsFrom 2 ks, refl)
+      go (suc n) = (roundsOf 1 1 n ++ roundsFrom 2 ks, refl)
+
+module _ (c input : List ℕ) (legal : listsCause c input ≡ 0) where
+  pub rounds-head : (rs : List Place) × (rounds c ≡ place 1 0 ∷ rs)
+  rounds-head = head-of c input (exponents c) (some-layer c input legal)
+
+  -- there: layer 1, round 0, before any coin
+  pub stands-first : Stands c input (rounds c) []
+  unfolding Stands At
+  stands-first =
+      let w = rounds-head in
+      let here : Here c (place 1 0) [] =
+        record { above = le-refl 1; within = some-layer c input legal; reached = zero-le; counted = rw sum-nil refl } in
+      (chain-all c input, subst (λ (l : List Place). At c input l []) (sym (w .1)) here)
+
+  true-first : truth c input (rounds c) [] ≡ value c input
+  unfolding truth
+  true-first = ap (λ (l : List Place). truth c input l []) (rounds-head .1) ∙ first-truth c input legal
+
+  abbrev p : ℕ
+  p = primeOf c
+
+  -- SOUNDNESS: a claim other than the true one
+  Bad : List Place → List ℕ → ℕ → Type 0
+  Bad rs past claim = Stands c input rs past × ¬ (claim ≡ truth c input rs past)
+
+  -- the coin at which a message meets the next true claim
+  lucky : List Place → List ℕ → List ℕ → ℕ → Bool
+  lucky [] past m t = false
+  lucky (r ∷ rs) past m t = eqb (messageAt c m t) (truth c input rs (past ++ (t ∷ [])))
+
+  few : (r : Place) (rs : List Place) (past : List ℕ) (claim : ℕ) (m : List ℕ) → Bad (r ∷ rs) past claim → descent c input .judge r past claim m ≡ 0
+      → count (lucky (r ∷ rs) past m) (range p) ≤ lossOf c r
+  unfolding Bad lucky descent truth
+  few r rs past claim m bad e =
+      let h : List ℕ = honest c input r past in
+      let here : Here c r past = stands-here c input r rs past (bad .0) in
+      let own = honest-words c input legal r past here in
+      let said = judged c r past claim m e in
+      let differ : ¬ (m ≡ h) = λ (q : m ≡ h). bad .1
+        (sym (said .2) ∙ ap (compared c (isLine c r) r past) q ∙ honest-compared c input legal r past here) in
+      le-trans (le-of-eq (count-same (λ t. t < p) _ _
+        (λ t l. ap (eqb (messageAt c m t)) (sym (honest-next c input legal r rs past t here (stands-follows c input r rs past (bad .0)))))
+        (range p) (all-range p)))
+      (root-bound p (legal-prime c (loaded c input legal)) (lossOf c r) m h (said .0 ∙ loss-more c r) (own .0 ∙ loss-more c r) (all-below p m (said .1)) (own .1) differ)
+
+  stays : (r : Place) (rs : List Place) (past : List ℕ) (claim : ℕ) (m : List ℕ) → Bad (r ∷ rs) past claim → descent c input .judge r past claim m ≡ 0
+      → (t : ℕ) → t < p → lucky (r ∷ rs) past m t ≡ false → Bad rs (past ++ (t ∷ [])) (descent c input .next m t)
+  unfolding Bad lucky descent
+  stays r rs past claim m bad e t l u =
+      (stands-next c input r rs past t (bad .0), λ (q : messageAt c m t ≡ truth c input rs (past ++ (t ∷ []))). true≢false (sym (eq-eqb _ _ q) ∙ u))
+
+  ends : (past : List ℕ) (claim : ℕ) → Bad [] past claim → descent c input .final past claim ≡ false
+  unfolding Bad descent truth inputAgrees
+  ends past claim bad = ne-eqb _ claim (λ (q : truth c input [] past ≡ claim). bad .1 (sym q))
+
+  starts : (y : ℕ) → ¬ (y ≡ value c input) → Bad (rounds c) [] y
+  unfolding Bad
+  starts y ne = (stands-first, λ (q : y ≡ truth c input (rounds c) []). ne (q ∙ true-first))
+
+  pub as-many : length (rounds c) ≡ coinCount c
+  unfolding coinCount
+  as-many = length-rounds 1 (exponents c)
+
+  pub false-output : (σ : Strategy Place) (y : ℕ) → ¬ (y ≡ value c input)
+      → passing p (coinCount c) (λ cs. passes (play (descent c input) σ (rounds c) [] y cs)) ≤ 5 * exponentSum c * p ^ (coinCount c - 1)
+  false-output σ y ne =
+      subst (λ (x : ℕ). passing p (coinCount c) (λ cs. passes (play (descent c input) σ (rounds c) [] y cs)) ≤ x * p ^ (coinCount c - 1)) (all-losses c)
+      (subst (λ (n : ℕ). passing p n (λ cs. passes (play (descent c input) σ (rounds c) [] y cs)) ≤ sum (map (lossOf c) (rounds c)) * p ^ (n - 1)) as-many
+      (play-count (descent c input) p (lossOf c) Bad lucky few stays ends σ (rounds c) [] y (starts y ne)))
+
+  pub false-output-sharp : (σ : Strategy Place) (y : ℕ) → ¬ (y ≡ value c input)
+      → passing p (coinCount c) (λ cs. passes (play (descent c input) σ (rounds c) [] y cs)) + luckless p (map (lossOf c) (rounds c)) ≤ p ^ coinCount c
+  false-output-sharp σ y ne =
+      subst (λ (n : ℕ). passing p n (λ cs. passes (play (descent c input) σ (rounds c) [] y cs)) + luckless p (map (lossOf c) (rounds c)) ≤ p ^ n) as-many
+      (play-sharp (descent c input) p (lossOf c) Bad lucky few stays ends σ (rounds c) [] y (starts y ne))
