@@ -1,14 +1,14 @@
 -- The layers of a legal circuit: their sizes, their values, their wires.
 -- Assumes nothing.
 use Prim.Native.Nat.{ℕ, zero, suc, _+_, _*_, _^_, _≤_, _<_}
-use mathlib.Core.Path.{_≡_, refl, sym, ap, _∙_}
-use mathlib.Core.Bool.{true}
+use mathlib.Core.Path.{_≡_, refl, sym, ap, ap₂, _∙_}
+use mathlib.Core.Bool.{Bool, true, _&&_}
 use mathlib.Core.List.{List, [], _∷_, map}
 use native.Mathlib.Nat.{mod-lt, le-of-suc-le-suc, le-trans, le-of-eq}
 use native.Mathlib.Omega.{arith}
 use lib.Dec.{ltb}
 use lib.ListN.{length, length-map, getD, drop}
-use borrow.Author.Tests.{ltb-true}
+use borrow.Author.Tests.{lt-ltb, ltb-true}
 use Rattle.lists.specs.Each.{All}
 use Rattle.primes.proofs.Prime.{listed-prime}
 use Rattle.refusal.proofs.Order.{first-none}
@@ -32,6 +32,11 @@ all-below p [] e = tt
 all-below p (w ∷ ws) e =
     let parts = split-true (ltb w p) (allBelow p ws) e in
     (ltb-true w p (parts .0), all-below p ws (parts .1))
+
+pub below-all : (p : ℕ) (ws : List ℕ) → All (λ w. w < p) ws → allBelow p ws ≡ true
+unfolding allBelow
+below-all p [] h = refl
+below-all p (w ∷ ws) h = ap₂ (λ (a b : Bool). a && b) (lt-ltb w p (h .0)) (below-all p ws (h .1))
 
 -- VALUES
 pub operate-below : (p : ℕ) → 0 < p → (kind x y : ℕ) → operate (words p) kind x y < p

@@ -24,7 +24,7 @@ use Rattle.refusal.proofs.Order.{first-none, need-none}
 use Rattle.circuit.specs.Circuit.{primeOf, exponents, exponentAt, coinCount, exponentSum}
 use Rattle.circuit.specs.Legal.{allBelow, loadAnswer, listsCause}
 use Rattle.circuit.specs.Values.{value}
-use Rattle.circuit.proofs.Layers.{legal-prime, all-below}
+use Rattle.circuit.proofs.Layers.{legal-prime, all-below, below-all}
 use Rattle.walk.specs.Game.{passes}
 use Rattle.walk.specs.Rule.{Strategy, Fits, play, byRule}
 use Rattle.walk.specs.Session.{Follows, Chain}
@@ -32,6 +32,7 @@ use Rattle.walk.proofs.Play.{play-count, play-sharp, play-complete}
 use Rattle.protocol.specs.Rounds.{Place, place, roundsOf, roundsFrom, rounds, isLine, placeAfter}
 use Rattle.protocol.specs.Judge.{messageAt, messageLength, compared, judge, inputAgrees, descent}
 use Rattle.protocol.specs.Prove.{honest}
+use Rattle.protocol.specs.Accept.{FitsCircuit}
 use Rattle.protocol.proofs.Rounds.{chain-all, length-rounds}
 use Rattle.protocol.proofs.Sums.{lossOf, loss-more, all-losses}
 use Rattle.protocol.proofs.Truth.{Here, truthAt, truth, loaded, honest-words, honest-compared, honest-next, some-layer, first-truth}
@@ -188,3 +189,43 @@ module _ (c input : List ℕ) (legal : listsCause c input ≡ 0) where
   false-output-sharp σ y ne =
       subst (λ (n : ℕ). passing p n (λ cs. passes (play (descent c input) σ (rounds c) [] y cs)) + luckless p (map (lossOf c) (rounds c)) ≤ p ^ n) as-many
       (play-sharp (descent c input) p (lossOf c) Bad lucky few stays ends σ (rounds c) [] y (starts y ne))
+
+  -- COMPLETENESS: the true claim
+  Right : List Place → List ℕ → ℕ → Type 0
+  Right rs past claim = Stands c input rs past × (claim ≡ truth c input rs past)
+
+  goes : (r : Place) (rs : List Place) (past : List ℕ) (claim : ℕ) → Right (r ∷ rs) past claim → descent c input .judge r past claim (honest c input r past) ≡ 0
+  unfolding Right descent truth
+  goes r rs past claim right =
+      let here : Here c r past = stands-here c input r rs past (right .0) in
+      let own = honest-words c input legal r past here in
+      passed c r past claim (honest c input r past) (own .0) (below-all p (honest c input r past) (own .1))
+      (honest-compared c input legal r past here ∙ sym (right .1))
+
+  keeps : (r : Place) (rs : List Place) (past : List ℕ) (claim : ℕ) → Right (r ∷ rs) past claim
+      → (t : ℕ) → t < p → Right rs (past ++ (t ∷ [])) (descent c input .next (honest c input r past) t)
+  unfolding Right descent
+  keeps r rs past claim right t l =
+      (stands-next c input r rs past t (right .0),
+       honest-next c input legal r rs past t (stands-here c input r rs past (right .0)) (stands-follows c input r rs past (right .0)))
+
+  closes : (past : List ℕ) (claim : ℕ) → Right [] past claim → descent c input .final past claim ≡ true
+  unfolding Right descent truth inputAgrees
+  closes past claim right = eq-eqb _ claim (sym (right .1))
+
+  pub true-output : (cs : List ℕ) → CoinList p (coinCount c) cs → play (descent c input) (byRule (honest c input)) (rounds c) [] (value c input) cs ≡ 0
+  unfolding Right
+  true-output cs v =
+      play-complete (descent c input) p Right (byRule (honest c input)) goes keeps closes (rounds c) [] (value c input) cs
+      (stands-first, sym true-first) (v .0 ∙ sym as-many, v .1)
+
+  -- the honest messages have the lengths that the walk calls for
+  honest-fits-from : (rs : List Place) (past cs : List ℕ) → Stands c input rs past → Fits (descent c input) (honest c input) rs past cs
+  unfolding Fits descent
+  honest-fits-from [] past cs s = tt
+  honest-fits-from (r ∷ rs) past [] s = tt
+  honest-fits-from (r ∷ rs) past (t ∷ cs) s =
+      (honest-words c input legal r past (stands-here c input r rs past s) .0, honest-fits-from rs (past ++ (t ∷ [])) cs (stands-next c input r rs past t s))
+
+  pub honest-fits : FitsCircuit c input (honest c input)
+  honest-fits cs v = honest-fits-from (rounds c) [] cs stands-first
