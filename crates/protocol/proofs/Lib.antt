@@ -3,3 +3,4 @@ pub mod Points
 pub mod Sums
 pub mod Truth
 pub mod Descent
+pub mod Check

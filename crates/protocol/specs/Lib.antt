@@ -4,3 +4,4 @@ pub mod Check
 pub mod Session
 pub mod Prove
 pub mod Accept
+pub mod Theorems

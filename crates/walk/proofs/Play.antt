@@ -3,10 +3,10 @@
 use Prim.Native.Nat.{ℕ, zero, suc, _+_, _-_, _*_, _^_, _≤_, _<_}
 use mathlib.Core.Path.{_≡_, refl, sym, ap, _∙_, subst}
 use mathlib.Core.Bool.{Bool, true, false, cond}
-use mathlib.Core.List.{List, [], _∷_, _++_, map, flatten}
-use native.Mathlib.Nat.{suc-inj}
+use mathlib.Core.List.{List, [], _∷_, _++_, map, flatten, append-nil, append-assoc}
+use native.Mathlib.Nat.{suc-inj, suc-ne-zero, not-suc-le-zero, le-of-suc-le-suc}
 use native.Mathlib.Omega.{arith}
-use lib.ListN.{length, length-map, take, drop}
+use lib.ListN.{length, length-map, take, drop, getD}
 use lib.Seq.{take-at, drop-at}
 use Rattle.lists.specs.Count.{sum, count, range}
 use Rattle.counting.specs.Coins.{CoinList, passing}
@@ -27,6 +27,17 @@ module _ {R : Type 0} (g : Game R) where
       let tk : take (g .len r) (rule r past ++ rest) ≡ rule r past = take-at (rule r past) rest (g .len r) (f .0) in
       let dr : drop (g .len r) (rule r past ++ rest) ≡ rest = drop-at (rule r past) rest (g .len r) (f .0) in
       rw (tk, dr) (ap (first (g .judge r past claim (rule r past))) (walk-said rule rs (past ++ (c ∷ [])) (g .next (rule r past) c) cs (f .1)))
+
+  -- message j is the rule's after the first j coins
+  pub said-at : (rule : Rule R) (rs : List R) (past cs : List ℕ) (j : ℕ) (d : R) → length cs ≡ length rs → j < length cs
+      → getD (said g rule rs past cs) j [] ≡ rule (getD rs j d) (past ++ take j cs)
+  unfolding said
+  said-at rule rs past [] j d n l = absurd (not-suc-le-zero l)
+  said-at rule [] past (c ∷ cs) j d n l = absurd (suc-ne-zero _ n)
+  said-at rule (r ∷ rs) past (c ∷ cs) zero d n l = ap (rule r) (sym (append-nil past))
+  said-at rule (r ∷ rs) past (c ∷ cs) (suc j) d n l =
+      said-at rule rs (past ++ (c ∷ [])) cs j d (suc-inj n) (le-of-suc-le-suc l)
+      ∙ ap (rule (getD rs j d)) (append-assoc past (c ∷ []) (take j cs))
 
   -- SOUNDNESS: from a bad state a message that passes keeps the state bad but for few coins
   module _ (p : ℕ) (loss : R → ℕ) (Bad : List R → List ℕ → ℕ → Type 0) (lucky : List R → List ℕ → List ℕ → ℕ → Bool)

@@ -114,12 +114,20 @@ module _ {R : Type 0} (g : Game R) where
   accepts-end all s (m ∷ ms) = step-ends (s .opened) _ _ s m all ms refl (accepts-end all (step g all s m .1) ms)
 
   -- the session of a rule
-  said-sized : (rule : Rule R) (rs : List R) (past cs : List ℕ) → Fits g rule rs past cs → length cs ≡ length rs → Sized rs (said g rule rs past cs)
+  pub said-sized : (rule : Rule R) (rs : List R) (past cs : List ℕ) → Fits g rule rs past cs → length cs ≡ length rs → Sized rs (said g rule rs past cs)
   unfolding Fits Sized said
   said-sized rule [] past [] f n = tt
   said-sized rule [] past (c ∷ cs) f n = absurd (suc-ne-zero _ n)
   said-sized rule (r ∷ rs) past [] f n = absurd (suc-ne-zero _ (sym n))
   said-sized rule (r ∷ rs) past (c ∷ cs) f n = (f .0, said-sized rule rs (past ++ (c ∷ [])) cs (f .1) (suc-inj n))
+
+  pub sized-words : (rs : List R) (ms : List (List ℕ)) → Sized rs ms → length (flatten ms) ≡ wordsOf rs
+  unfolding Sized flatten
+  sized-words [] [] s = sym sum-nil
+  sized-words [] (m ∷ ms) s = absurd s
+  sized-words (r ∷ rs) [] s = absurd s
+  sized-words (r ∷ rs) (m ∷ ms) s =
+      length-append m (flatten ms) ∙ omega (arith, s .0, sized-words rs ms (s .1), sum-cons (g .len r) (map (g .len) rs))
 
   pub session-play : (rule : Rule R) (r : R) (rs : List R) (past : List ℕ) (claim : ℕ) (cs : List ℕ)
       → Chain g (r ∷ rs) (length past) → Fits g rule (r ∷ rs) past cs → length cs ≡ length (r ∷ rs)

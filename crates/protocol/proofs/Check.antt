@@ -1,0 +1,87 @@
+-- The whole check on a rule's transcript is the walk on its messages, once nothing is refused before.
+-- Assumes nothing.
+use Prim.Native.Nat.{ℕ, zero, suc, _<_}
+use mathlib.Core.Path.{_≡_, refl, sym, ap, _∙_}
+use mathlib.Core.Bool.{Bool, true, false}
+use mathlib.Core.List.{List, []}
+use lib.Dec.{eqb, ltb}
+use lib.ListN.{length}
+use borrow.Author.Tests.{eq-eqb, eqb-true, lt-ltb, ltb-true}
+use Rattle.counting.specs.Coins.{CoinList}
+use Rattle.refusal.specs.Order.{need, first}
+use Rattle.refusal.proofs.Order.{first-none, need-none}
+use Rattle.circuit.specs.Circuit.{primeOf, coinCount, messageWords}
+use Rattle.circuit.specs.Legal.{allBelow, listsCause}
+use Rattle.circuit.proofs.Layers.{all-below, below-all}
+use Rattle.walk.specs.Game.{walk}
+use Rattle.walk.specs.Rule.{Rule, said, play, byRule}
+use Rattle.walk.proofs.Play.{walk-said}
+use Rattle.walk.proofs.Session.{said-sized, sized-words}
+use Rattle.protocol.specs.Rounds.{Place, rounds}
+use Rattle.protocol.specs.Judge.{descent}
+use Rattle.protocol.specs.Check.{needCoins, checkAnswer}
+use Rattle.protocol.specs.Session.{openCause}
+use Rattle.protocol.specs.Prove.{transcript}
+use Rattle.protocol.specs.Accept.{FitsCircuit}
+use Rattle.protocol.proofs.Sums.{message-words}
+use Rattle.protocol.proofs.Descent.{as-many}
+
+-- OPENING: what no refusal says
+pub record Opened (c input : List ℕ) (y : ℕ) (cs : List ℕ) : Type 0 where
+  pub lists : listsCause c input ≡ 0
+  pub output : y < primeOf c
+  pub coins : CoinList (primeOf c) (coinCount c) cs
+
+pub opened : (c input : List ℕ) (y : ℕ) (cs : List ℕ) → openCause c input y cs ≡ 0 → Opened c input y cs
+unfolding openCause
+opened c input y cs e =
+    let lists = first-none (listsCause c input) _ e in
+    let output = need-none (ltb y (primeOf c)) 12 _ (lists .1) in
+    let number = need-none (eqb (length cs) (coinCount c)) 10 _ (output .1) in
+    let small = need-none (allBelow (primeOf c) cs) 11 _ (number .1) in
+    record {
+      lists = lists .0;
+      output = ltb-true y (primeOf c) (output .0);
+      coins = (eqb-true (length cs) (coinCount c) (number .0), all-below (primeOf c) cs (small .0));
+    }
+
+-- the coins of a coin list are not refused
+pub coins-taken : (c cs : List ℕ) (rest : ℕ) → CoinList (primeOf c) (coinCount c) cs → needCoins c cs rest ≡ rest
+coins-taken c cs rest v = rw (eq-eqb (length cs) (coinCount c) (v .0), below-all (primeOf c) cs (v .1)) refl
+
+pub open-legal : (c input : List ℕ) (y : ℕ) (cs : List ℕ) → Opened c input y cs → openCause c input y cs ≡ 0
+unfolding openCause
+open-legal c input y cs o = rw (o .lists, lt-ltb y (primeOf c) (o .output)) (coins-taken c cs 0 (o .coins))
+
+-- an output that is no residue is refused by both
+pub open-large : (c input : List ℕ) (y : ℕ) (cs : List ℕ) → listsCause c input ≡ 0 → ltb y (primeOf c) ≡ false → openCause c input y cs ≡ 13
+unfolding openCause
+open-large c input y cs e l = rw (e, l) refl
+
+pub check-large : (c input : List ℕ) (y : ℕ) (cs ms : List ℕ) → listsCause c input ≡ 0 → ltb y (primeOf c) ≡ false → checkAnswer c input y cs ms ≡ 13
+unfolding checkAnswer
+check-large c input y cs ms e l = rw (e, l) refl
+
+-- once nothing is refused, the walk decides
+pub check-walk : (c input : List ℕ) (y : ℕ) (cs ms : List ℕ) → Opened c input y cs → length ms ≡ messageWords c
+    → checkAnswer c input y cs ms ≡ walk (descent c input) (rounds c) [] y ms cs
+unfolding checkAnswer
+check-walk c input y cs ms o n =
+    rw (o .lists, lt-ltb y (primeOf c) (o .output)) (coins-taken c cs _ (o .coins))
+    ∙ ap (λ (b : Bool). need b 14 (walk (descent c input) (rounds c) [] y ms cs)) (eq-eqb (length ms) (messageWords c) n)
+
+-- a rule's transcript has the exact length
+pub length-transcript : (c input : List ℕ) → listsCause c input ≡ 0 → (rule : Rule Place) → FitsCircuit c input rule
+    → (cs : List ℕ) → CoinList (primeOf c) (coinCount c) cs → length (transcript c input rule cs) ≡ messageWords c
+unfolding transcript descent
+length-transcript c input legal rule fits cs v =
+    sized-words (descent c input) (rounds c) (said (descent c input) rule (rounds c) [] cs)
+      (said-sized (descent c input) rule (rounds c) [] cs (fits cs v) (v .0 ∙ sym (as-many c input legal)))
+    ∙ message-words c
+
+pub whole-play : (c input : List ℕ) (y : ℕ) (cs : List ℕ) → Opened c input y cs → (rule : Rule Place) → FitsCircuit c input rule
+    → checkAnswer c input y cs (transcript c input rule cs) ≡ play (descent c input) (byRule rule) (rounds c) [] y cs
+unfolding transcript
+whole-play c input y cs o rule fits =
+    check-walk c input y cs (transcript c input rule cs) o (length-transcript c input (o .lists) rule fits cs (o .coins))
+    ∙ walk-said (descent c input) rule (rounds c) [] y cs (fits cs (o .coins))
