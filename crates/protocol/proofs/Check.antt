@@ -23,8 +23,8 @@ use Rattle.protocol.specs.Check.{needCoins, checkAnswer}
 use Rattle.protocol.specs.Session.{openCause}
 use Rattle.protocol.specs.Prove.{transcript}
 use Rattle.protocol.specs.Accept.{FitsCircuit}
+use Rattle.protocol.proofs.Rounds.{as-many}
 use Rattle.protocol.proofs.Sums.{message-words}
-use Rattle.protocol.proofs.Descent.{as-many}
 
 -- OPENING: what no refusal says
 pub record Opened (c input : List ℕ) (y : ℕ) (cs : List ℕ) : Type 0 where
@@ -71,17 +71,17 @@ check-walk c input y cs ms o n =
     ∙ ap (λ (b : Bool). need b 14 (walk (descent c input) (rounds c) [] y ms cs)) (eq-eqb (length ms) (messageWords c) n)
 
 -- a rule's transcript has the exact length
-pub length-transcript : (c input : List ℕ) → listsCause c input ≡ 0 → (rule : Rule Place) → FitsCircuit c input rule
+pub length-transcript : (c input : List ℕ) (rule : Rule Place) → FitsCircuit c input rule
     → (cs : List ℕ) → CoinList (primeOf c) (coinCount c) cs → length (transcript c input rule cs) ≡ messageWords c
 unfolding transcript descent
-length-transcript c input legal rule fits cs v =
+length-transcript c input rule fits cs v =
     sized-words (descent c input) (rounds c) (said (descent c input) rule (rounds c) [] cs)
-      (said-sized (descent c input) rule (rounds c) [] cs (fits cs v) (v .0 ∙ sym (as-many c input legal)))
+      (said-sized (descent c input) rule (rounds c) [] cs (fits cs v) (v .0 ∙ sym (as-many c)))
     ∙ message-words c
 
 pub whole-play : (c input : List ℕ) (y : ℕ) (cs : List ℕ) → Opened c input y cs → (rule : Rule Place) → FitsCircuit c input rule
     → checkAnswer c input y cs (transcript c input rule cs) ≡ play (descent c input) (byRule rule) (rounds c) [] y cs
 unfolding transcript
 whole-play c input y cs o rule fits =
-    check-walk c input y cs (transcript c input rule cs) o (length-transcript c input (o .lists) rule fits cs (o .coins))
+    check-walk c input y cs (transcript c input rule cs) o (length-transcript c input rule fits cs (o .coins))
     ∙ walk-said (descent c input) rule (rounds c) [] y cs (fits cs (o .coins))

@@ -33,7 +33,7 @@ use Rattle.protocol.specs.Rounds.{Place, place, roundsOf, roundsFrom, ro
 use Rattle.protocol.specs.Judge.{messageAt, messageLength, compared, judge, inputAgrees, descent}
 use Rattle.protocol.specs.Prove.{honest}
 use Rattle.protocol.specs.Accept.{FitsCircuit}
-use Rattle.protocol.proofs.Rounds.{chain-all, length-rounds}
+use Rattle.protocol.proofs.Rounds.{chain-all, as-many}
 use Rattle.protocol.proofs.Sums.{lossOf, loss-more, all-losses}
 use Rattle.protocol.proofs.Truth.{Here, truthAt, truth, loaded, honest-words, honest-compared, honest-next, some-layer, first-truth}
 
@@ -173,21 +173,17 @@ module _ (c input : List ℕ) (legal : listsCause c input ≡ 0) where
   unfolding Bad
   starts y ne = (stands-first, λ (q : y ≡ truth c input (rounds c) []). ne (q ∙ true-first))
 
-  pub as-many : length (rounds c) ≡ coinCount c
-  unfolding coinCount
-  as-many = length-rounds 1 (exponents c)
-
   pub false-output : (σ : Strategy Place) (y : ℕ) → ¬ (y ≡ value c input)
       → passing p (coinCount c) (λ cs. passes (play (descent c input) σ (rounds c) [] y cs)) ≤ 5 * exponentSum c * p ^ (coinCount c - 1)
   false-output σ y ne =
       subst (λ (x : ℕ). passing p (coinCount c) (λ cs. passes (play (descent c input) σ (rounds c) [] y cs)) ≤ x * p ^ (coinCount c - 1)) (all-losses c)
-      (subst (λ (n : ℕ). passing p n (λ cs. passes (play (descent c input) σ (rounds c) [] y cs)) ≤ sum (map (lossOf c) (rounds c)) * p ^ (n - 1)) as-many
+      (subst (λ (n : ℕ). passing p n (λ cs. passes (play (descent c input) σ (rounds c) [] y cs)) ≤ sum (map (lossOf c) (rounds c)) * p ^ (n - 1)) (as-many c)
       (play-count (descent c input) p (lossOf c) Bad lucky few stays ends σ (rounds c) [] y (starts y ne)))
 
   pub false-output-sharp : (σ : Strategy Place) (y : ℕ) → ¬ (y ≡ value c input)
       → passing p (coinCount c) (λ cs. passes (play (descent c input) σ (rounds c) [] y cs)) + luckless p (map (lossOf c) (rounds c)) ≤ p ^ coinCount c
   false-output-sharp σ y ne =
-      subst (λ (n : ℕ). passing p n (λ cs. passes (play (descent c input) σ (rounds c) [] y cs)) + luckless p (map (lossOf c) (rounds c)) ≤ p ^ n) as-many
+      subst (λ (n : ℕ). passing p n (λ cs. passes (play (descent c input) σ (rounds c) [] y cs)) + luckless p (map (lossOf c) (rounds c)) ≤ p ^ n) (as-many c)
       (play-sharp (descent c input) p (lossOf c) Bad lucky few stays ends σ (rounds c) [] y (starts y ne))
 
   -- COMPLETENESS: the true claim
@@ -217,7 +213,7 @@ module _ (c input : List ℕ) (legal : listsCause c input ≡ 0) where
   unfolding Right
   true-output cs v =
       play-complete (descent c input) p Right (byRule (honest c input)) goes keeps closes (rounds c) [] (value c input) cs
-      (stands-first, sym true-first) (v .0 ∙ sym as-many, v .1)
+      (stands-first, sym true-first) (v .0 ∙ sym (as-many c), v .1)
 
   -- the honest messages have the lengths that the walk calls for
   honest-fits-from : (rs : List Place) (past cs : List ℕ) → Stands c input rs past → Fits (descent c input) (honest c input) rs past cs

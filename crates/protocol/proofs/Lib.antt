@@ -4,3 +4,5 @@ pub mod Sums
 pub mod Truth
 pub mod Descent
 pub mod Check
+pub mod Session
+pub mod Theorems

@@ -14,9 +14,9 @@ use borrow.Author.Tests.{eq-eqb, ne-eqb}
 use Rattle.lists.specs.Count.{sum}
 use Rattle.lists.proofs.Count.{sum-nil, sum-cons, sum-append}
 use Rattle.lists.proofs.Map.{map-append}
-use Rattle.circuit.specs.Circuit.{exponents, exponentAt}
+use Rattle.circuit.specs.Circuit.{exponents, exponentAt, coinCount}
 use Rattle.walk.specs.Session.{Follows, Chain}
-use Rattle.protocol.specs.Rounds.{Place, place, roundsOf, roundsFrom, coinsOf, layerStart, isLine}
+use Rattle.protocol.specs.Rounds.{Place, place, roundsOf, roundsFrom, rounds, coinsOf, layerStart, isLine}
 use Rattle.protocol.specs.Judge.{descent}
 
 pub coins-append : (a b : List ℕ) → coinsOf (a ++ b) ≡ coinsOf a + coinsOf b
@@ -80,9 +80,13 @@ length-roundsOf i j zero = refl
 length-roundsOf i j (suc n) = ap suc (length-roundsOf i (suc j) n)
 
 -- as many rounds as coins
-pub length-rounds : (i : ℕ) (ks : List ℕ) → length (roundsFrom i ks) ≡ coinsOf ks
+length-rounds : (i : ℕ) (ks : List ℕ) → length (roundsFrom i ks) ≡ coinsOf ks
 unfolding roundsFrom
 length-rounds i [] = sym sum-nil
 length-rounds i (k ∷ ks) =
     length-append (roundsOf i 0 (2 * k)) (roundsFrom (suc i) ks)
     ∙ omega (arith, length-roundsOf i 0 (2 * k), length-rounds (suc i) ks, sum-cons (2 * k + 1) (map (λ k. 2 * k + 1) ks))
+
+pub as-many : (c : List ℕ) → length (rounds c) ≡ coinCount c
+unfolding coinCount
+as-many c = length-rounds 1 (exponents c)
