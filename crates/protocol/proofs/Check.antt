@@ -1,14 +1,14 @@
 -- The whole check on a rule's transcript is the walk on its messages, once nothing is refused before.
 -- Assumes nothing.
-use Prim.Native.Nat.{ℕ, zero, suc, _<_}
+use Prim.Native.Nat.{ℕ, _<_}
 use mathlib.Core.Path.{_≡_, refl, sym, ap, _∙_}
-use mathlib.Core.Bool.{Bool, true, false}
+use mathlib.Core.Bool.{Bool, false}
 use mathlib.Core.List.{List, []}
 use lib.Dec.{eqb, ltb}
 use lib.ListN.{length}
 use borrow.Author.Tests.{eq-eqb, eqb-true, lt-ltb, ltb-true}
 use Rattle.counting.specs.Coins.{CoinList}
-use Rattle.refusal.specs.Order.{need, first}
+use Rattle.refusal.specs.Order.{need}
 use Rattle.refusal.proofs.Order.{first-none, need-none}
 use Rattle.circuit.specs.Circuit.{primeOf, coinCount, messageWords}
 use Rattle.circuit.specs.Legal.{allBelow, listsCause}
@@ -76,7 +76,7 @@ pub length-transcript : (c input : List ℕ) (rule : Rule Place) → FitsCircuit
 unfolding transcript descent
 length-transcript c input rule fits cs v =
     sized-words (descent c input) (rounds c) (said (descent c input) rule (rounds c) [] cs)
-      (said-sized (descent c input) rule (rounds c) [] cs (fits cs v) (v .0 ∙ sym (as-many c)))
+    (said-sized (descent c input) rule (rounds c) [] cs (fits cs v) (v .0 ∙ sym (as-many c)))
     ∙ message-words c
 
 pub whole-play : (c input : List ℕ) (y : ℕ) (cs : List ℕ) → Opened c input y cs → (rule : Rule Place) → FitsCircuit c input rule

@@ -11,31 +11,28 @@ use native.Mathlib.Omega.{arith}
 use lib.Dec.{eqb}
 use lib.ListN.{length, length-append}
 use borrow.Author.Tests.{eq-eqb, ne-eqb, eqb-true}
-use Rattle.lists.specs.Each.{All}
 use Rattle.lists.specs.Count.{sum, count, range}
 use Rattle.lists.proofs.Count.{sum-nil, count-same, all-range}
-use Rattle.algebra.specs.Numbers.{words}
-use Rattle.algebra.specs.Polynomial.{valueAt}
 use Rattle.algebra.proofs.Roots.{root-bound}
 use Rattle.counting.specs.Coins.{CoinList, passing}
 use Rattle.counting.specs.Doomed.{luckless}
 use Rattle.refusal.specs.Order.{need}
-use Rattle.refusal.proofs.Order.{first-none, need-none}
+use Rattle.refusal.proofs.Order.{need-none}
 use Rattle.circuit.specs.Circuit.{primeOf, exponents, exponentAt, coinCount, exponentSum}
-use Rattle.circuit.specs.Legal.{allBelow, loadAnswer, listsCause}
+use Rattle.circuit.specs.Legal.{allBelow, listsCause}
 use Rattle.circuit.specs.Values.{value}
 use Rattle.circuit.proofs.Layers.{legal-prime, all-below, below-all}
 use Rattle.walk.specs.Game.{passes}
 use Rattle.walk.specs.Rule.{Strategy, Fits, play, byRule}
 use Rattle.walk.specs.Session.{Follows, Chain}
 use Rattle.walk.proofs.Play.{play-count, play-sharp, play-complete}
-use Rattle.protocol.specs.Rounds.{Place, place, roundsOf, roundsFrom, rounds, isLine, placeAfter}
+use Rattle.protocol.specs.Rounds.{Place, place, roundsOf, roundsFrom, rounds, isLine}
 use Rattle.protocol.specs.Judge.{messageAt, messageLength, compared, judge, inputAgrees, descent}
 use Rattle.protocol.specs.Prove.{honest}
 use Rattle.protocol.specs.Accept.{FitsCircuit}
 use Rattle.protocol.proofs.Rounds.{chain-all, as-many}
 use Rattle.protocol.proofs.Sums.{lossOf, loss-more, all-losses}
-use Rattle.protocol.proofs.Truth.{Here, truthAt, truth, loaded, honest-words, honest-compared, honest-next, some-layer, first-truth}
+use Rattle.protocol.proofs.Truth.{Here, truth, loaded, honest-words, honest-compared, honest-next, some-layer, first-truth}
 
 -- THE JUDGEMENT, taken apart and put together
 pub judged : (c : List ℕ) (r : Place) (past : List ℕ) (claim : ℕ) (m : List ℕ) → judge c r past claim m ≡ 0
@@ -125,7 +122,7 @@ module _ (c input : List ℕ) (legal : listsCause c input ≡ 0) where
   stands-first =
       let w = rounds-head in
       let here : Here c (place 1 0) [] =
-        record { above = le-refl 1; within = some-layer c input legal; reached = zero-le; counted = rw sum-nil refl } in
+      record { above = le-refl 1; within = some-layer c input legal; reached = zero-le; counted = rw sum-nil refl } in
       (chain-all c input, subst (λ (l : List Place). At c input l []) (sym (w .1)) here)
 
   true-first : truth c input (rounds c) [] ≡ value c input
@@ -153,10 +150,10 @@ module _ (c input : List ℕ) (legal : listsCause c input ≡ 0) where
       let own = honest-words c input legal r past here in
       let said = judged c r past claim m e in
       let differ : ¬ (m ≡ h) = λ (q : m ≡ h). bad .1
-        (sym (said .2) ∙ ap (compared c (isLine c r) r past) q ∙ honest-compared c input legal r past here) in
+      (sym (said .2) ∙ ap (compared c (isLine c r) r past) q ∙ honest-compared c input legal r past here) in
       le-trans (le-of-eq (count-same (λ t. t < p) _ _
-        (λ t l. ap (eqb (messageAt c m t)) (sym (honest-next c input legal r rs past t here (stands-follows c input r rs past (bad .0)))))
-        (range p) (all-range p)))
+      (λ t l. ap (eqb (messageAt c m t)) (sym (honest-next c input legal r rs past t here (stands-follows c input r rs past (bad .0)))))
+      (range p) (all-range p)))
       (root-bound p (legal-prime c (loaded c input legal)) (lossOf c r) m h (said .0 ∙ loss-more c r) (own .0 ∙ loss-more c r) (all-below p m (said .1)) (own .1) differ)
 
   stays : (r : Place) (rs : List Place) (past : List ℕ) (claim : ℕ) (m : List ℕ) → Bad (r ∷ rs) past claim → descent c input .judge r past claim m ≡ 0
@@ -201,9 +198,10 @@ module _ (c input : List ℕ) (legal : listsCause c input ≡ 0) where
   keeps : (r : Place) (rs : List Place) (past : List ℕ) (claim : ℕ) → Right (r ∷ rs) past claim
       → (t : ℕ) → t < p → Right rs (past ++ (t ∷ [])) (descent c input .next (honest c input r past) t)
   unfolding Right descent
-  keeps r rs past claim right t l =
-      (stands-next c input r rs past t (right .0),
-       honest-next c input legal r rs past t (stands-here c input r rs past (right .0)) (stands-follows c input r rs past (right .0)))
+  keeps r rs past claim right t l = (
+    stands-next c input r rs past t (right .0),
+    honest-next c input legal r rs past t (stands-here c input r rs past (right .0)) (stands-follows c input r rs past (right .0)),
+  )
 
   closes : (past : List ℕ) (claim : ℕ) → Right [] past claim → descent c input .final past claim ≡ true
   unfolding Right descent truth inputAgrees

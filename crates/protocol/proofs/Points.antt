@@ -2,11 +2,11 @@
 -- the point of the next layer.
 -- Assumes nothing.
 use Prim.Native.Nat.{ℕ, zero, suc, _+_, _*_, _≤_, _<_}
-use mathlib.Core.Path.{_≡_, refl, sym, ap, _∙_}
+use mathlib.Core.Path.{_≡_, refl, ap, _∙_}
 use mathlib.Core.List.{List, [], _∷_, _++_}
 use native.Mathlib.Omega.{arith}
 use lib.ListN.{length, length-append, length-drop, take, drop, getD, drop-of-length-le}
-use lib.Seq.{take-suc, take-all, take-append-le, drop-append-le, take-at, getD-at, length-take-le}
+use lib.Seq.{take-suc, take-all, take-append-le, drop-append-le, take-at, getD-at}
 use Rattle.algebra.specs.Numbers.{words}
 use Rattle.circuit.specs.Circuit.{primeOf, exponents, exponentAt}
 use Rattle.sumcheck.specs.Summand.{linePoint}

@@ -1,21 +1,20 @@
 -- From opening, a step refuses nothing before it looks at the message, until the record is ended; so the steps are the calls of the walk's game.
 -- Assumes nothing.
-use Prim.Native.Nat.{ℕ, zero, suc, _*_, _≤_, _<_}
-use mathlib.Core.Path.{_≡_, refl, sym, ap, ap₂, _∙_, subst}
-use mathlib.Core.Bool.{Bool, true, false, _&&_, true≢false}
+use Prim.Native.Nat.{ℕ, zero, suc, _*_, _<_}
+use mathlib.Core.Path.{_≡_, refl, sym, ap, _∙_, subst}
+use mathlib.Core.Bool.{Bool, true, false, true≢false}
 use mathlib.Core.List.{List, [], _∷_, _++_}
-use lib.Dec.{ltb, leb}
 use lib.ListN.{length, take, getD}
 use borrow.Author.Tests.{le-leb, lt-ltb}
 use Rattle.algebra.proofs.Polynomial.{value-below}
 use Rattle.counting.specs.Coins.{CoinList}
-use Rattle.refusal.specs.Order.{need, first}
+use Rattle.refusal.specs.Order.{need}
 use Rattle.circuit.specs.Circuit.{primeOf, exponents, exponentAt, coinCount}
 use Rattle.circuit.specs.Legal.{listsCause}
-use Rattle.walk.specs.Session.{Answer, refused, Record, ended, stepFinal, stepLast, stepJudge, step, calls, at, Follows}
-use Rattle.protocol.specs.Rounds.{Place, place, rounds}
+use Rattle.walk.specs.Session.{Answer, refused, Record, ended, stepFinal, stepJudge, step, calls, at}
+use Rattle.protocol.specs.Rounds.{Place}
 use Rattle.protocol.specs.Judge.{messageAt, descent}
-use Rattle.protocol.specs.Session.{recordFits, stepCause, stepAfter, stepAnswer, steps, openedAt}
+use Rattle.protocol.specs.Session.{recordFits, stepCause, stepAfter, stepAnswer, steps}
 use Rattle.protocol.proofs.Truth.{Here, positive}
 use Rattle.protocol.proofs.Descent.{Stands, stands-here, stands-follows, stands-next}
 use Rattle.protocol.proofs.Check.{coins-taken}
@@ -52,7 +51,7 @@ module _ (c input : List ℕ) (legal : listsCause c input ≡ 0) (cs : List ℕ)
   -- the record after a step is ended, or stands at the next round with a residue as its claim
   after-step : (k : ℕ) (b : Bool) (before : List ℕ) (t : ℕ) (r : Place) (claim : ℕ) (m : List ℕ) (ms : List (List ℕ)) → descent c input .last r ≡ b
       → (b ≡ false → steps c input cs (at (descent c input) (descent c input .after r) (messageAt c m t)) ms
-        ≡ calls (descent c input) cs (at (descent c input) (descent c input .after r) (messageAt c m t)) ms)
+      ≡ calls (descent c input) cs (at (descent c input) (descent c input .after r) (messageAt c m t)) ms)
       → steps c input cs (stepJudge (descent c input) k before t (at (descent c input) r claim) m .1) ms
       ≡ calls (descent c input) cs (stepJudge (descent c input) k before t (at (descent c input) r claim) m .1) ms
   unfolding descent
@@ -68,7 +67,7 @@ module _ (c input : List ℕ) (legal : listsCause c input ≡ 0) (cs : List ℕ)
   -- one step, and those after it
   step-then : (r : Place) (rs : List Place) (past : List ℕ) (claim : ℕ) (m : List ℕ) (ms : List (List ℕ)) → Stands c input (r ∷ rs) past → claim < primeOf c
       → ((t : ℕ) → descent c input .last r ≡ false → steps c input cs (at (descent c input) (descent c input .after r) (messageAt c m t)) ms
-        ≡ calls (descent c input) cs (at (descent c input) (descent c input .after r) (messageAt c m t)) ms)
+      ≡ calls (descent c input) cs (at (descent c input) (descent c input .after r) (messageAt c m t)) ms)
       → steps c input cs (at (descent c input) r claim) (m ∷ ms) ≡ calls (descent c input) cs (at (descent c input) r claim) (m ∷ ms)
   unfolding steps calls step
   step-then r rs past claim m ms s l ih =
@@ -77,7 +76,7 @@ module _ (c input : List ℕ) (legal : listsCause c input ≡ 0) (cs : List ℕ)
       let t : ℕ = getD cs (g .before r) 0 in
       ap (λ (x : Answer × Record Place). x .0 ∷ steps c input cs (x .1) ms) (step-here r claim past m (stands-here c input r rs past s) l)
       ∙ ap (λ (rest : List Answer). now .0 ∷ rest)
-        (after-step (g .judge r (take (g .before r) cs) claim m) (g .last r) (take (g .before r) cs) t r claim m ms refl (ih t))
+      (after-step (g .judge r (take (g .before r) cs) claim m) (g .last r) (take (g .before r) cs) t r claim m ms refl (ih t))
 
   pub steps-calls : (ms : List (List ℕ)) (r : Place) (rs : List Place) (past : List ℕ) (claim : ℕ) → Stands c input (r ∷ rs) past → claim < primeOf c
       → steps c input cs (at (descent c input) r claim) ms ≡ calls (descent c input) cs (at (descent c input) r claim) ms

@@ -43,10 +43,10 @@ module _ (c : List ℕ) (a : ℕ) (g : ℕ → ℕ) where
       let front′ : List ℕ = front ++ (k ∷ []) in
       let en : length front′ ≡ suc (length front) = length-append front (k ∷ []) ∙ add-one (length front) in
       let ih : sum (map weightOf (roundsFrom (suc i) back)) ≡ sum (map (λ k. 2 * k * a + g k) back) =
-        subst (λ (x : ℕ). sum (map weightOf (roundsFrom (suc x) back)) ≡ sum (map (λ k. 2 * k * a + g k) back)) en
-        (sum-from front′ back (append-assoc front (k ∷ []) back ∙ e)) in
+      subst (λ (x : ℕ). sum (map weightOf (roundsFrom (suc x) back)) ≡ sum (map (λ k. 2 * k * a + g k) back)) en
+      (sum-from front′ back (append-assoc front (k ∷ []) back ∙ e)) in
       let own : sum (map weightOf (roundsOf i 0 (2 * k))) ≡ 2 * k * a + g k =
-        sum-layer i 0 (2 * k) (omega arith) ∙ ap (λ (x : ℕ). 2 * k * a + g x) ek in
+      sum-layer i 0 (2 * k) (omega arith) ∙ ap (λ (x : ℕ). 2 * k * a + g x) ek in
       ap sum (map-append weightOf (roundsOf i 0 (2 * k)) (roundsFrom (suc i) back))
       ∙ sum-append (map weightOf (roundsOf i 0 (2 * k))) (map weightOf (roundsFrom (suc i) back))
       ∙ omega (arith, own, ih, sum-cons (2 * k * a + g k) (map (λ k. 2 * k * a + g k) back))

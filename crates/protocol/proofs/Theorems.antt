@@ -1,8 +1,8 @@
 -- The theorems, from the walk down a circuit and from what check and steps do with it.
 -- Assumes nothing.
-use Prim.Native.Nat.{ℕ, _+_, _-_, _*_, _^_, _≤_}
+use Prim.Native.Nat.{ℕ, _+_, _-_, _^_, _≤_}
 use mathlib.Core.Path.{_≡_, refl, sym, ap, ap₂, _∙_, subst}
-use mathlib.Core.Bool.{Bool, true, false, _&&_, true≢false, false≢true}
+use mathlib.Core.Bool.{Bool, true, false, _&&_, false≢true}
 use mathlib.Core.List.{List, [], _∷_, _++_, map}
 use native.Mathlib.Nat.{le-trans, le-of-eq}
 use native.Mathlib.Omega.{arith}
@@ -10,7 +10,7 @@ use lib.Dec.{ltb}
 use lib.ListN.{length, take, getD}
 use lib.Seq.{length-take-le}
 use borrow.Author.Tests.{ltb-true}
-use Rattle.counting.specs.Coins.{CoinList, passing}
+use Rattle.counting.specs.Coins.{CoinList}
 use Rattle.counting.specs.Doomed.{luckless}
 use Rattle.counting.proofs.Coins.{agree, monotone}
 use Rattle.circuit.specs.Circuit.{primeOf, coinCount}
@@ -24,8 +24,7 @@ use Rattle.walk.proofs.Play.{said-at}
 use Rattle.walk.proofs.Session.{wordsOf, session-play, transcript-session, no-lookahead}
 use Rattle.protocol.specs.Rounds.{Place, place, rounds}
 use Rattle.protocol.specs.Judge.{messageLength, descent}
-use Rattle.protocol.specs.Check.{checkAnswer}
-use Rattle.protocol.specs.Session.{openCause, openedAt, steps}
+use Rattle.protocol.specs.Session.{openedAt, steps}
 use Rattle.protocol.specs.Prove.{honest, transcript}
 use Rattle.protocol.specs.Accept.{FitsCircuit, wholeAccepts, sessionAccepts}
 use Rattle.protocol.specs.Theorems.{Complete, Sound, Sharp, Demand3, SameEnd, SameAcceptance, NoEarlyCoin, HonestByPrefix, HonestFits}
@@ -103,7 +102,7 @@ whole-sharp c input legal y ne rule fits =
 pub whole-complete : Complete wholeAccepts
 whole-complete c input legal cs v =
     whole-accepts c input legal (value c input) (honest c input) (honest-fits c input legal) cs
-      (record { lists = legal; output = value-below c input legal; coins = v })
+    (record { lists = legal; output = value-below c input legal; coins = v })
     ∙ ap passes (true-output c input legal cs v)
 
 -- THE SESSION, which accepts when the check does

@@ -1,11 +1,11 @@
 -- The true claim at each round, and the honest message: it has the round's length, gives the true claim where the round compares, and at the
 -- coin gives the true claim of the next round.
 -- Assumes nothing.
-use Prim.Native.Nat.{ℕ, zero, suc, _+_, _-_, _*_, _^_, _≤_, _<_}
+use Prim.Native.Nat.{ℕ, zero, suc, _+_, _-_, _*_, _≤_, _<_}
 use mathlib.Core.Path.{_≡_, refl, sym, ap, ap₂, _∙_, subst}
 use mathlib.Core.Bool.{Bool, true, false, _&&_, cond, true≢false, false≢true}
-use mathlib.Core.List.{List, [], _∷_, _++_, map, append-nil}
-use native.Mathlib.Nat.{not-suc-le-zero, sub-self}
+use mathlib.Core.List.{List, [], _∷_, _++_, append-nil}
+use native.Mathlib.Nat.{not-suc-le-zero}
 use native.Mathlib.Numerals.{add-one}
 use native.Mathlib.Omega.{arith}
 use lib.Dec.{eqb}
@@ -18,22 +18,20 @@ use Rattle.algebra.specs.Numbers.{words}
 use Rattle.multilinear.specs.Extension.{extension}
 use Rattle.multilinear.proofs.Words.{one-word}
 use Rattle.refusal.proofs.Order.{first-none}
-use Rattle.circuit.specs.Gate.{Gate, gateValue}
+use Rattle.circuit.specs.Gate.{Gate}
 use Rattle.circuit.specs.Circuit.{primeOf, depth, exponents, exponentAt, gatesAt}
 use Rattle.circuit.specs.Legal.{loadAnswer, listsCause}
-use Rattle.circuit.specs.Sized.{LegalCircuit}
 use Rattle.circuit.specs.Values.{valuesAt, value}
-use Rattle.circuit.proofs.Loading.{LegalLists, legal-lists}
+use Rattle.circuit.proofs.Loading.{legal-lists}
 use Rattle.circuit.proofs.Sized.{length-exponents}
 use Rattle.circuit.proofs.Layers.{legal-prime, layer-sizes, last-layer, layer-by-layer, wires-below-next, output-layer, value-below}
-use Rattle.sumcheck.specs.Summand.{combined, summand, cube, partialSum, linePoint}
-use Rattle.sumcheck.specs.Message.{sumMessage, lineMessage}
+use Rattle.sumcheck.specs.Summand.{combined, summand, cube, partialSum}
 use Rattle.sumcheck.proofs.Words.{layer-identity, sum-of-two, sum-message-value, line-message-value, line-ends, sum-message-words, line-message-words}
 use Rattle.walk.specs.Session.{Follows}
 use Rattle.protocol.specs.Rounds.{Place, place, layerStart, isLine, coinsBefore}
 use Rattle.protocol.specs.Judge.{fixed, pointAt, gatesAbove, lineClaim, messageAt, messageLength, compared, descent}
 use Rattle.protocol.specs.Prove.{honest}
-use Rattle.protocol.proofs.Points.{start-next, fixed-more, fixed-none, point-more, point-line}
+use Rattle.protocol.proofs.Points.{fixed-more, fixed-none, point-more, point-line}
 
 -- a round of the walk, after the coins before it
 pub record Here (c : List ℕ) (r : Place) (past : List ℕ) : Type 0 where
