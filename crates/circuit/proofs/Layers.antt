@@ -1,6 +1,6 @@
 -- The layers of a legal circuit: their sizes, their values, their wires.
 -- Assumes nothing.
-use Prim.Native.Nat.{ℕ, zero, suc, _+_, _*_, _^_, _≤_, _<_}
+use Prim.Native.Nat.{ℕ, zero, suc, _+_, _-_, _*_, _^_, _≤_, _<_}
 use mathlib.Core.Path.{_≡_, refl, sym, ap, ap₂, _∙_}
 use mathlib.Core.Bool.{Bool, true, _&&_}
 use mathlib.Core.List.{List, [], _∷_, map}
@@ -16,6 +16,7 @@ use Rattle.algebra.specs.Numbers.{Numbers, words}
 use Rattle.circuit.specs.Gate.{Gate, operate, gateValue}
 use Rattle.circuit.specs.Circuit.{primeOf, depth, exponents, outputExponent, gatesStart, gatesOf, layersOf, gateLayers, gatesAt, inputExponent}
 use Rattle.circuit.specs.Legal.{allBelow, gateCause, gatesCause, layersCause, listsCause}
+use Rattle.circuit.specs.Sized.{LegalCircuit}
 use Rattle.circuit.specs.Values.{layersFrom, layers, valuesAt, value}
 use Rattle.circuit.specs.Theorems.{LegalPrime, ValuesAreResidues, LayerSizes, LastLayer, LayerByLayer, WiresBelow, OutputLayer}
 use Rattle.circuit.proofs.Sized.{length-exponents}
@@ -159,3 +160,7 @@ unfolding value valuesAt
 value-below c input e =
     let two = listed-prime (primeOf c) (legal-lists c input e .circuit .listed) .two-le in
     first-below (primeOf c) (omega arith) (layers c input) (values-are-residues c input e)
+
+-- the largest residue of a listed prime
+pub prime-modulus : (c : List ℕ) → LegalCircuit c → (largest : ℕ) → largest ≡ primeOf c - 1 → largest + 1 ≡ primeOf c
+prime-modulus c h largest e = let two = listed-prime (primeOf c) (h .listed) .two-le in omega arith

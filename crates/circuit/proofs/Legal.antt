@@ -1,15 +1,15 @@
 -- Laws of legality: a list's words from a place on, a gate by its words, layer by layer.
 -- Assumes nothing.
 use Prim.Native.Nat.{ℕ, zero, suc, _+_, _-_, _*_, _≤_, _<_}
-use mathlib.Core.Path.{_≡_, refl, ap, _∙_}
+use mathlib.Core.Path.{_≡_, refl, sym, ap, _∙_}
 use mathlib.Core.Bool.{Bool, true, false, not, _&&_, _||_, false≢true}
 use mathlib.Core.List.{List, [], _∷_}
-use native.Mathlib.Nat.{add-zero, le-of-suc-le-suc}
+use native.Mathlib.Nat.{add-zero, le-of-suc-le-suc, sub-zero, suc-sub-suc}
 use native.Mathlib.Numerals.{add-one}
 use native.Mathlib.Omega.{arith}
 use lib.Dec.{ltb, leb, eqb}
-use lib.ListN.{length, getD, drop, drop-of-length-le}
-use lib.Seq.{drop-cons, drop-drop, getD-drop}
+use lib.ListN.{length, getD, take, drop, drop-of-length-le}
+use lib.Seq.{drop-cons, drop-drop, getD-drop, getD-take, take-nil}
 use borrow.Author.Tests.{lt-ltb, le-ltb, lt-leb, le-leb, eq-eqb, ne-eqb, ltb-true}
 use Rattle.refusal.specs.Order.{need, first}
 use Rattle.refusal.proofs.Order.{first-none, need-none}
@@ -137,3 +137,20 @@ unfolding gatesCause
 gates-wires next [] i d e h = absurd (omega arith)
 gates-wires next (g ∷ gs) zero d e h = gate-wires next g (first-none (gateCause next g) (gatesCause next gs) e .0)
 gates-wires next (g ∷ gs) (suc i) d e h = gates-wires next gs i d (first-none (gateCause next g) (gatesCause next gs) e .1) (le-of-suc-le-suc h)
+
+-- the gates of a part that has all their words
+pub gates-part : (n m : ℕ) (ws : List ℕ) → 3 * n ≤ m → gatesOf n (take m ws) ≡ gatesOf n ws
+unfolding gatesOf
+gates-part zero m ws h = refl
+gates-part (suc n) m ws h =
+    let three : drop 3 (take m ws) ≡ take (m - 3) (drop 3 ws) = drop-take 3 m ws (omega arith) in
+    let zeroth : getD (take m ws) 0 0 ≡ getD ws 0 0 = getD-take m ws 0 0 (omega arith) in
+    let first : getD (take m ws) 1 0 ≡ getD ws 1 0 = getD-take m ws 1 0 (omega arith) in
+    let second : getD (take m ws) 2 0 ≡ getD ws 2 0 = getD-take m ws 2 0 (omega arith) in
+    rw (zeroth, first, second, three, gates-part n (m - 3) (drop 3 ws) (omega arith))
+  where
+    drop-take : (a b : ℕ) (l : List ℕ) → a ≤ b → drop a (take b l) ≡ take (b - a) (drop a l)
+    drop-take zero b l q = ap (λ (k : ℕ). take k l) (sym (sub-zero b))
+    drop-take (suc a) zero l q = absurd (omega arith)
+    drop-take (suc a) (suc b) [] q = sym (take-nil (suc b - suc a))
+    drop-take (suc a) (suc b) (x ∷ l) q = drop-take a b l (omega arith) ∙ ap (λ (k : ℕ). take k (drop a l)) (sym (suc-sub-suc b a))

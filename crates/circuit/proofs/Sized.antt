@@ -143,10 +143,10 @@ module _ (c : List ℕ) (layer : ℕ) (h : LayerOf c layer) (pos : 0 < layer) wh
   shifted : 2 + (layer - 1) ≡ 1 + layer
   shifted = omega arith
 
-  layer-small : getD c (1 + layer) 0 ≤ maxExponent
+  pub layer-small : getD c (1 + layer) 0 ≤ maxExponent
   layer-small = subst (λ (i : ℕ). getD c i 0 ≤ maxExponent) shifted (exponent-small c (depth c) (h .headed) (layer - 1) (omega (arith, h .inside)))
 
-  layer-word : getD c (1 + layer) 0 ≡ exponentAt c layer
+  pub layer-word : getD c (1 + layer) 0 ≡ exponentAt c layer
   layer-word =
       let back : layer - 1 + 1 ≡ layer = omega arith in
       ap (λ (i : ℕ). getD c i 0) (sym shifted) ∙ exponent-word c (depth c) (h .headed) (layer - 1) (omega (arith, h .inside)) ∙ ap (exponentAt c) back

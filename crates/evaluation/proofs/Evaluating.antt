@@ -10,7 +10,6 @@ use lib.ListN.{length, take, drop, getD, length-append, length-drop, length-map,
 use lib.Seq.{length-take-le, drop-at, drop-cons, drop-drop, getD-drop, getD-take, take-append-add}
 use native.Mathlib.Decide.{decLe}
 use lib.Pow.{pow-pos}
-use Rattle.primes.proofs.Prime.{listed-prime}
 use Rattle.refusal.proofs.Order.{first-none}
 use Rattle.lists.specs.Buffer.{over}
 use Rattle.lists.proofs.Buffer.{length-over, take-over, rest-lent, rest-back}
@@ -22,9 +21,9 @@ use Rattle.circuit.specs.Values.{layersFrom, layers, valuesAt, value}
 use Rattle.evaluation.specs.Layer.{layerValues, AllValues, Fillable, Placed}
 use Rattle.circuit.specs.Legal.{gatesCause, layersCause}
 use Rattle.circuit.specs.Sized.{Exponents, LegalCircuit}
-use Rattle.circuit.proofs.Legal.{length-gates}
+use Rattle.circuit.proofs.Legal.{length-gates, gates-part}
 use Rattle.circuit.proofs.Sized.{length-exponents, count-at, count-end, count-tight, layers-at, layers-start, sized-count, exponents-at, width-le, last-small}
-use Rattle.evaluation.proofs.Filling.{values-agree, gates-part, length-layer}
+use Rattle.evaluation.proofs.Filling.{values-agree, length-layer}
 
 -- a list put over the rest of the array from `at` on
 module _ (values part ws : List ℕ) (at : ℕ) (size : length values ≡ maxValues) (fits : at + length ws ≤ maxValues)
@@ -358,7 +357,3 @@ module _ (c input : List ℕ) (h : LegalCircuit c) (sized : length input ≡ inp
       sym (getD-take (valueCount c) values 0 0 (omega (arith, pow-pos (inputExponent c))))
       ∙ ap (λ (t : List ℕ). getD t 0 0) (v ∙ layers-first N ls input)
       ∙ List·getD-append first (flatten (drop 1 (layersFrom N ls input))) 0 0 (omega arith)
-
--- the field of a listed prime
-pub prime-modulus : (c : List ℕ) → LegalCircuit c → (largest : ℕ) → largest ≡ primeOf c - 1 → largest + 1 ≡ primeOf c
-prime-modulus c h largest e = let two = listed-prime (primeOf c) (h .listed) .two-le in omega arith

@@ -3,10 +3,10 @@
 use Prim.Native.Nat.{ℕ, zero, suc, _+_, _-_, _*_, _≤_, _<_}
 use mathlib.Core.Path.{_≡_, refl, sym, ap, ap₂, _∙_}
 use mathlib.Core.List.{List, [], _∷_, map}
-use native.Mathlib.Nat.{le-of-suc-le-suc, sub-zero, suc-sub-suc}
+use native.Mathlib.Nat.{le-of-suc-le-suc}
 use native.Mathlib.Omega.{arith}
 use lib.ListN.{length, getD, set, take, drop, length-map}
-use lib.Seq.{getD-drop, getD-take, length-take-le, take-nil}
+use lib.Seq.{getD-drop, length-take-le}
 use Rattle.lists.specs.Buffer.{over}
 use Rattle.lists.proofs.Buffer.{over-next, getD-over-after}
 use Rattle.refusal.proofs.Order.{first-none}
@@ -101,20 +101,3 @@ values-agree p next (g ∷ gs) v w e same =
     ap₂ (λ (x : ℕ) (l : List ℕ). x ∷ l)
     (ap₂ (operate (words p) (g .kind)) (same (g .left) (wires .left)) (same (g .right) (wires .right)))
     (values-agree p next gs v w (parts .1) same)
-
--- the gates of a part that has all their words
-pub gates-part : (n m : ℕ) (ws : List ℕ) → 3 * n ≤ m → gatesOf n (take m ws) ≡ gatesOf n ws
-unfolding gatesOf
-gates-part zero m ws h = refl
-gates-part (suc n) m ws h =
-    let three : drop 3 (take m ws) ≡ take (m - 3) (drop 3 ws) = drop-take 3 m ws (omega arith) in
-    let zeroth : getD (take m ws) 0 0 ≡ getD ws 0 0 = getD-take m ws 0 0 (omega arith) in
-    let first : getD (take m ws) 1 0 ≡ getD ws 1 0 = getD-take m ws 1 0 (omega arith) in
-    let second : getD (take m ws) 2 0 ≡ getD ws 2 0 = getD-take m ws 2 0 (omega arith) in
-    rw (zeroth, first, second, three, gates-part n (m - 3) (drop 3 ws) (omega arith))
-  where
-    drop-take : (a b : ℕ) (l : List ℕ) → a ≤ b → drop a (take b l) ≡ take (b - a) (drop a l)
-    drop-take zero b l q = ap (λ (k : ℕ). take k l) (sym (sub-zero b))
-    drop-take (suc a) zero l q = absurd (omega arith)
-    drop-take (suc a) (suc b) [] q = sym (take-nil (suc b - suc a))
-    drop-take (suc a) (suc b) (x ∷ l) q = drop-take a b l (omega arith) ∙ ap (λ (k : ℕ). take k (drop a l)) (sym (suc-sub-suc b a))

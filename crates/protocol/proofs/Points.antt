@@ -29,18 +29,18 @@ module _ (c : List ℕ) where
       let sn : layerStart c (suc (suc l)) ≡ layerStart c (suc l) + 2 * exponentAt c (suc l) + 1 = start-next l n in
       drop-of-length-le (past ++ (t ∷ [])) {i = layerStart c (suc (suc l))} (rw length-append (omega arith))
 
-  pub point-more : (i : ℕ) (past : List ℕ) (t : ℕ) → i ≤ length (exponents c) → layerStart c i ≤ length past
-      → pointAt c i (past ++ (t ∷ [])) ≡ pointAt c i past
-  point-more zero past t n h = refl
-  point-more (suc zero) past t n h = refl
-  point-more (suc (suc l)) past t n h =
+  pub point-more : (i : ℕ) (past more : List ℕ) → i ≤ length (exponents c) → layerStart c i ≤ length past
+      → pointAt c i (past ++ more) ≡ pointAt c i past
+  point-more zero past more n h = refl
+  point-more (suc zero) past more n h = refl
+  point-more (suc (suc l)) past more n h =
       let k : ℕ = exponentAt c (suc l) in
       let s : ℕ = layerStart c (suc l) in
       let sn : layerStart c (suc (suc l)) ≡ s + 2 * k + 1 = start-next l (omega arith) in
       let b : s ≤ length past = omega arith in
-      let e : take (2 * k + 1) (drop s (past ++ (t ∷ []))) ≡ take (2 * k + 1) (drop s past) =
-      ap (take (2 * k + 1)) (drop-append-le s past (t ∷ []) b)
-      ∙ take-append-le (2 * k + 1) (drop s past) (t ∷ []) (rw length-drop (omega arith)) in
+      let e : take (2 * k + 1) (drop s (past ++ more)) ≡ take (2 * k + 1) (drop s past) =
+      ap (take (2 * k + 1)) (drop-append-le s past more b)
+      ∙ take-append-le (2 * k + 1) (drop s past) more (rw length-drop (omega arith)) in
       ap (lineEnd c k) e
 
   -- the coin of the line ends the layer

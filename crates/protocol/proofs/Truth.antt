@@ -149,7 +149,7 @@ module _ (c input : List ℕ) (legal : listsCause c input ≡ 0) where
         go : layerStart c i + j ≡ length past → i ≤ length (exponents c)
             → messageAt c (honest c input (place i j) past) t ≡ truthAt c input (place i (suc j)) (past ++ (t ∷ []))
         go n w =
-            rw (eb, point-more c i past t w (omega arith), fixed-more c i past t (omega arith))
+            rw (eb, point-more c i past (t ∷ []) w (omega arith), fixed-more c i past t (omega arith))
             (sum-message-value (primeOf c) positive (exponentAt c i) (gatesAbove c i) (pointAt c i past) (valuesAt c input i) (fixed c i past) t)
 
     -- the line's value is that of the extension at the point which the coin gives

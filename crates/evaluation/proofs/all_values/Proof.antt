@@ -5,7 +5,8 @@ use mathlib.Core.Path.{_≡_}
 use borrow.Author.Needs.{needs}
 use native.Mathlib.Omega.{arith}
 use Rattle.circuit.specs.Circuit.{exponentAt}
-use Rattle.evaluation.proofs.Evaluating.{Filled, input-fits, input-width, filled-start, turn-sizes, turn-width, turn-fillable, turn-filled, filled-all, prime-modulus}
+use Rattle.circuit.proofs.Layers.{prime-modulus}
+use Rattle.evaluation.proofs.Evaluating.{Filled, input-fits, input-width, filled-start, turn-sizes, turn-width, turn-fillable, turn-filled, filled-all}
 use Rattle.evaluation.proofs.all_values.Statement.{statement}
 use Rattle.evaluation.proofs.all_values.Tie as tie
 

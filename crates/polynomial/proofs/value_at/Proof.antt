@@ -1,0 +1,59 @@
+-- `value_at` meets its contract. The loop keeps `Horner`: the value of the coefficients passed, from the last on. The measure is the number of\ncoefficients to come.
+-- Assumes nothing.
+use borrow.Author.Needs.{needs}
+use Prim.Native.Nat.{_-_}
+use Rattle.field.specs.Modulus.{numbers}
+use Rattle.polynomial.proofs.Horner.{Horner, start, step, end}
+use Rattle.polynomial.proofs.value_at.Statement.{statement}
+use Rattle.polynomial.proofs.value_at.Tie as tie
+
+abbrev Inv-loop : tie.InvT-loop
+Inv-loop f coefficients x value₀ left₀ value left = Horner (numbers f) coefficients x value left
+
+abbrev μ-loop : tie.MeasureT-loop
+μ-loop f coefficients x value₀ left₀ value left = left
+
+loop-holds : tie.Need-loop-holds Inv-loop μ-loop
+loop-holds c = start _ _ _
+
+sub-left : tie.Need-sub-left Inv-loop μ-loop
+sub-left c = search needs
+
+mul-c : tie.Need-mul-c Inv-loop μ-loop
+mul-c c = search needs
+
+shared-slice-read-c : tie.Need-shared-slice-read-c Inv-loop μ-loop
+shared-slice-read-c c = search needs
+
+mul-requires : tie.Need-mul-requires Inv-loop μ-loop
+mul-requires c κs = search needs
+
+add-requires : tie.Need-add-requires Inv-loop μ-loop
+add-requires c κs = search needs
+
+loop-less : tie.Need-loop-less Inv-loop μ-loop
+loop-less c = search needs
+
+loop-again : tie.Need-loop-again Inv-loop μ-loop
+loop-again c =
+    let here = c .before .before .before .before in
+    step _ _ 0 _ (here .loop .value) _ (here .loop .left) (here .loop .inv) (search needs) cc
+
+returns : tie.Need-returns Inv-loop μ-loop
+returns c = end _ _ _ _ _ (c .before .loop .inv) (search needs)
+
+pub value-at-spec : {M : Type 1} → statement M
+value-at-spec =
+    tie.close
+    (tie.spec
+    Inv-loop
+    μ-loop
+    loop-holds
+    sub-left
+    mul-c
+    shared-slice-read-c
+    mul-requires
+    add-requires
+    loop-less
+    loop-again
+    returns)

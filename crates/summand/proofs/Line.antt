@@ -1,0 +1,80 @@
+-- Laws of the line between two points: its length, its coordinates, its first coordinates, and the loop that writes it word by word.
+-- Assumes nothing.
+use mathlib.Core.Path.{_≡_, refl, sym, ap, ap₂, _∙_}
+use mathlib.Core.List.{List, [], _∷_, append-nil, _++_}
+use Prim.Native.Nat.{ℕ, zero, suc, _+_, _-_, _≤_, _<_}
+use native.Mathlib.Omega.{arith}
+use lib.ListN.{length, take, getD, set, drop-of-length-le, length-set}
+use Rattle.lists.specs.Buffer.{over}
+use Rattle.lists.proofs.Buffer.{over-next, over-all}
+use Rattle.algebra.specs.Numbers.{Numbers}
+use Rattle.sumcheck.specs.Summand.{linePoint}
+
+module _ {C : Type 0} (N : Numbers C) where
+  pub length-line : (n : ℕ) (u v : List C) (t : C) → length u ≡ n → length v ≡ n → length (linePoint N u v t) ≡ n
+  unfolding linePoint
+  length-line n [] v t e e′ = e
+  length-line n (x ∷ u) [] t e e′ = e′
+  length-line zero (x ∷ u) (y ∷ v) t e e′ = absurd (omega arith)
+  length-line (suc n) (x ∷ u) (y ∷ v) t e e′ = ap suc (length-line n u v t (omega arith) (omega arith))
+
+  -- the first coordinates of a line's point are those of the line between the first coordinates
+  pub take-line : (k : ℕ) (u v : List C) (t : C) → take k (linePoint N u v t) ≡ linePoint N (take k u) (take k v) t
+  unfolding linePoint
+  take-line zero u v t = refl
+  take-line (suc k) [] v t = refl
+  take-line (suc k) (x ∷ u) [] t = refl
+  take-line (suc k) (x ∷ u) (y ∷ v) t = ap (λ (l : List C). N .add x (N .mul t (N .sub y x)) ∷ l) (take-line k u v t)
+
+  pub getD-line : (i : ℕ) (u v : List C) (t d : C) → i < length u → i < length v
+      → getD (linePoint N u v t) i d ≡ N .add (getD u i d) (N .mul t (N .sub (getD v i d) (getD u i d)))
+  unfolding linePoint
+  getD-line i [] v t d h h′ = absurd (omega arith)
+  getD-line i (x ∷ u) [] t d h h′ = absurd (omega arith)
+  getD-line zero (x ∷ u) (y ∷ v) t d h h′ = refl
+  getD-line (suc i) (x ∷ u) (y ∷ v) t d h h′ = getD-line i u v t d (omega arith) (omega arith)
+
+  -- i coordinates stand at the front of a row of n
+  pub record Drawn (n : ℕ) (u v : List C) (t : C) (line₀ line : List C) (i : ℕ) : Type 0 where
+    pub within : i ≤ n
+    pub length-u : length u ≡ n
+    pub length-v : length v ≡ n
+    pub length-before : length line₀ ≡ n
+    pub length-now : length line ≡ n
+    pub drawn : line ≡ over (take i (linePoint N u v t)) line₀
+
+  pub start : (n : ℕ) (u v : List C) (t : C) (line : List C) → length u ≡ n → length v ≡ n → length line ≡ n → Drawn n u v t line line 0
+  start n u v t line eu ev e = record {
+    within = omega arith;
+    length-u = eu;
+    length-v = ev;
+    length-before = e;
+    length-now = e;
+    drawn = refl;
+  }
+
+  pub step : (n : ℕ) (u v : List C) (t d x : C) (line₀ line : List C) (i : ℕ) → Drawn n u v t line₀ line i → i < n
+      → x ≡ N .add (getD u i d) (N .mul t (N .sub (getD v i d) (getD u i d)))
+      → Drawn n u v t line₀ (set line i x) (i + 1)
+  step n u v t d x line₀ line i h more e =
+      let eu = h .length-u in
+      let ev = h .length-v in
+      let e₀ = h .length-before in
+      let size : length (linePoint N u v t) ≡ n = length-line n u v t eu ev in
+      record {
+        within = omega arith;
+        length-u = eu;
+        length-v = ev;
+        length-before = e₀;
+        length-now = length-set line i x ∙ h .length-now;
+        drawn = ap₂ (λ (l : List C) (y : C). set l i y) (h .drawn) (e ∙ sym (getD-line i u v t d (omega arith) (omega arith)))
+            ∙ over-next (linePoint N u v t) line₀ i d (omega arith) (omega arith);
+      }
+
+  pub end : (n : ℕ) (u v : List C) (t : C) (line₀ line : List C) (i : ℕ) → Drawn n u v t line₀ line i → n ≤ i → line ≡ linePoint N u v t
+  end n u v t line₀ line i h all =
+      let e₀ = h .length-before in
+      let whole = linePoint N u v t in
+      let size : length whole ≡ n = length-line n u v t (h .length-u) (h .length-v) in
+      h .drawn ∙ over-all whole line₀ i (omega arith)
+      ∙ ap (λ (l : List C). whole ++ l) (drop-of-length-le line₀ {i = length whole} (omega arith)) ∙ append-nil whole

@@ -1,0 +1,14 @@
+-- `part` meets its contract, by the test.
+-- Assumes nothing.
+use borrow.Author.Tests.{eq-eqb, ne-eqb}
+use Rattle.summand.proofs.part.Statement.{statement}
+use Rattle.summand.proofs.part.Tie as tie
+
+returns : tie.Need-returns
+returns c = simp (eq-eqb _ _ (c .if1 .taken))
+
+returns-2 : tie.Need-returns-2
+returns-2 c = simp (ne-eqb _ _ (c .if1 .left))
+
+pub part-spec : {M : Type 1} → statement M
+part-spec = tie.close (tie.spec returns returns-2)

@@ -1,0 +1,70 @@
+-- The last comparison, as the check computes it.
+-- Assumes nothing.
+use Prim.Native.Nat.{ℕ, zero, suc, _+_, _-_, _*_, _^_, _≤_, _<_}
+use mathlib.Core.Path.{_≡_, refl, sym, ap, ap₂, _∙_, subst}
+use mathlib.Core.List.{List}
+use native.Mathlib.Numerals.{add-one}
+use native.Mathlib.Omega.{arith}
+use lib.Dec.{eqb}
+use lib.ListN.{length, take}
+use lib.Seq.{length-take-le}
+use Rattle.algebra.specs.Numbers.{words}
+use Rattle.multilinear.specs.Extension.{extension, halving}
+use Rattle.multilinear.proofs.Words.{halving-on-words}
+use Rattle.circuit.specs.Limits.{maxExponent}
+use Rattle.circuit.specs.Circuit.{primeOf, depth, exponents, exponentAt, inputExponent}
+use Rattle.circuit.specs.Legal.{listsCause}
+use Rattle.circuit.specs.Sized.{LayerOf, LegalCircuit}
+use Rattle.circuit.proofs.Layers.{all-below}
+use Rattle.circuit.proofs.Loading.{legal-lists}
+use Rattle.circuit.proofs.Sized.{length-exponents}
+use Rattle.protocol.specs.Judge.{pointAt, inputAgrees}
+use Rattle.protocol.proofs.Truth.{positive}
+use Rattle.verifier.specs.Standing.{AtLayer, Finished, Row}
+use Rattle.verifier.proofs.Gates.{exponent-small}
+use Rattle.verifier.proofs.Points.{point-length}
+use Rattle.verifier.proofs.Coins.{layer-of, count-all}
+
+module _ (c input cs : List ℕ) (h : Finished c input cs) where
+  pub legal : LegalCircuit c
+  legal = legal-lists c input (h .lists) .circuit
+
+  deep : length (exponents c) ≡ depth c
+  deep = length-exponents c (depth c) (legal .sized .headed)
+
+  pub long : 2 + depth c ≤ length c
+  long = legal .sized .headed .long
+
+  pub shallow : depth c ≤ 16
+  shallow = legal .sized .headed .shallow
+
+  pub behind-last : AtLayer c (depth c + 1) cs
+  behind-last = record { legal = legal; first = omega arith; last = omega arith; counted = h .counted ∙ sym (count-all c legal) }
+
+  pub last-layer : LayerOf c (depth c)
+  last-layer = layer-of c legal (depth c) (omega arith)
+
+  point-size : length (pointAt c (depth c + 1) cs) ≡ exponentAt c (depth c)
+  point-size = let e : depth c + 1 - 1 ≡ depth c = omega arith in point-length c cs (depth c + 1) behind-last ∙ ap (exponentAt c) e
+
+  -- the coordinates in front of the point's row
+  pub front : (k : ℕ) (point : List ℕ) → k ≡ exponentAt c (depth c) → Row (pointAt c (depth c + 1) cs) point
+      → (k ≤ length point) × (k ≡ length (take k point))
+  front k point ek row =
+      let low = exponent-small c (depth c) last-layer in
+      let fits : k ≤ length point = omega (arith, low, ek, row .size) in
+      (fits, sym (length-take-le k point fits))
+
+  pub agrees : (k x claim : ℕ) (point : List ℕ) → k ≡ exponentAt c (depth c) → Row (pointAt c (depth c + 1) cs) point
+      → x ≡ halving (words (primeOf c)) input (take k point) → eqb x claim ≡ inputAgrees c input cs claim
+  unfolding inputAgrees inputExponent
+  agrees k x claim point ek row e =
+      let lists = legal-lists c input (h .lists) in
+      let p : ℕ = primeOf c in
+      let z : List ℕ = pointAt c (depth c + 1) cs in
+      let there : take k point ≡ z = ap (λ (n : ℕ). take n point) (ek ∙ sym point-size) ∙ row .holds in
+      let size : length input ≡ 2 ^ length z = lists .sized ∙ ap (λ (n : ℕ). 2 ^ exponentAt c n) deep ∙ ap (λ (n : ℕ). 2 ^ n) (sym point-size) in
+      let last : depth c + 1 ≡ suc (length (exponents c)) = add-one (depth c) ∙ ap suc (sym deep) in
+      ap (λ (v : ℕ). eqb v claim)
+      (e ∙ ap (halving (words p) input) there ∙ halving-on-words p (positive c input (h .lists)) input z size (all-below p input (lists .residues))
+      ∙ ap (λ (n : ℕ). extension (words p) input (pointAt c n cs)) last)

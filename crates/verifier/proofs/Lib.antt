@@ -1,0 +1,7 @@
+pub mod Gates
+pub mod Points
+pub mod Judging
+pub mod Lines
+pub mod Coins
+pub mod Opens
+pub mod Last

@@ -1,0 +1,137 @@
+use Prim.Native.Nat.{ℕ}
+use mathlib.Core.Path.{_≡_, ap, _∙_}
+use native.Mathlib.Omega.{arith}
+use lib.ListN.{take}
+use Rattle.algebra.specs.Numbers.{words}
+use Rattle.multilinear.specs.Extension.{halving}
+use Rattle.circuit.proofs.Layers.{prime-modulus}
+use Rattle.verifier.proofs.Last.{legal, long, shallow, behind-last, last-layer, front, agrees}
+use borrow.Author.Needs.{needs}
+use Rattle.verifier.proofs.input_agrees.Statement.{statement}
+use Rattle.verifier.proofs.input_agrees.Tie as tie
+use Rattle.verifier.proofs.input_agrees.Reads as reads
+use Rattle.verifier.proofs.input_agrees.Lts as lts
+use Rattle.extension.proofs.extend.Reads as extend-reads
+use Rattle.field.proofs.Field.of.Reads as of-reads
+use Rattle.verifier.proofs.exponent.Reads as exponent-reads
+use Rattle.verifier.proofs.standing_point.Reads as standing-point-reads
+
+-- src/lib.rt:193:17
+shared-slice-read-depth : tie.Need-shared-slice-read-depth
+shared-slice-read-depth c =
+    let start = c .before .before .before .before in
+    let l = start .args .circuit .now in
+    let v = start .args .input .now in
+    let cs = start .args .coins .now in
+    let big = long l v cs (start .pre) in
+    omega arith
+
+-- src/lib.rt:193:17
+cast-depth : tie.Need-cast-depth
+cast-depth c =
+    let start = c .before .before .before .before in
+    let l = start .args .circuit .now in
+    let v = start .args .input .now in
+    let cs = start .args .coins .now in
+    let low = shallow l v cs (start .pre) in
+    omega arith
+
+-- src/lib.rt:194:41
+add-standing-point : tie.Need-add-standing-point
+add-standing-point c =
+    let start = c .before .before .before .before in
+    let l = start .args .circuit .now in
+    let v = start .args .input .now in
+    let cs = start .args .coins .now in
+    let low = shallow l v cs (start .pre) in
+    omega arith
+
+-- src/lib.rt:194:17
+standing-point-requires : tie.Need-standing-point-requires
+standing-point-requires c κs =
+    let start = c .before .before .before .before in
+    let l = start .args .circuit .now in
+    let v = start .args .input .now in
+    let cs = start .args .coins .now in
+    behind-last l v cs (start .pre)
+
+-- src/lib.rt:195:13
+exponent-requires : tie.Need-exponent-requires
+exponent-requires c κs =
+    let start = c .before .before .before .before .before in
+    let l = start .args .circuit .now in
+    let v = start .args .input .now in
+    let cs = start .args .coins .now in
+    last-layer l v cs (start .pre)
+
+-- src/lib.rt:195:13
+cast-k : tie.Need-cast-k
+cast-k c = search needs
+
+-- src/lib.rt:196:33
+shared-slice-read-of : tie.Need-shared-slice-read-of
+shared-slice-read-of c =
+    let start = c .before .before .before .before .before .before .before in
+    let l = start .args .circuit .now in
+    let v = start .args .input .now in
+    let cs = start .args .coins .now in
+    let big = long l v cs (start .pre) in
+    omega arith
+
+-- src/lib.rt:196:23
+of-requires : tie.Need-of-requires
+of-requires c κs = search needs
+
+-- src/lib.rt:196:53
+array-share-prefix-point : tie.Need-array-share-prefix-point
+array-share-prefix-point c =
+    let start = c .before .before .before .before .before .before .before .before in
+    let l = start .args .circuit .now in
+    let v = start .args .input .now in
+    let cs = start .args .coins .now in
+    front l v cs (start .pre) (c .before .before .exponent .result) (c .before .before .before .standing-point .result) (c .before .before .exponent .ensures)
+    (c .before .before .before .standing-point .ensures) .0
+
+-- src/lib.rt:196:53
+slice-aggregate-extend : tie.Need-slice-aggregate-extend
+slice-aggregate-extend c =
+    let start = c .before .before .before .before .before .before .before .before .before in
+    let l = start .args .circuit .now in
+    let v = start .args .input .now in
+    let cs = start .args .coins .now in
+    front l v cs (start .pre) (c .before .before .before .exponent .result) (c .before .before .before .before .standing-point .result) (c .before .before .before .exponent .ensures)
+    (c .before .before .before .before .standing-point .ensures) .1
+
+-- src/lib.rt:196:5
+extend-requires : tie.Need-extend-requires
+extend-requires c κs = search needs
+
+-- src/lib.rt:189:1
+returns : tie.Need-returns
+returns c =
+    let start = c .before .before .before .before .before .before .before .before .before .before in
+    let l = start .args .circuit .now in
+    let v = start .args .input .now in
+    let cs = start .args .coins .now in
+    let k = c .before .before .before .before .exponent in
+    let point = c .before .before .before .before .before .standing-point in
+    let f = prime-modulus l (legal l v cs (start .pre)) _ (c .before .before .of .ensures) in
+    agrees l v cs (start .pre) (k .result) (c .extend .result) (start .args .claim) (point .result) (k .ensures) (point .ensures)
+    (c .extend .ensures ∙ ap (λ (p : ℕ). halving (words p) v (take (k .result) (point .result))) f)
+
+pub input-agrees-spec : {M : Type 1} → statement M
+input-agrees-spec =
+    tie.close
+    (tie.spec
+    shared-slice-read-depth
+    cast-depth
+    add-standing-point
+    standing-point-requires
+    exponent-requires
+    cast-k
+    shared-slice-read-of
+    of-requires
+    array-share-prefix-point
+    slice-aggregate-extend
+    extend-requires
+    returns)
