@@ -5,3 +5,4 @@ pub mod Lines
 pub mod Coins
 pub mod Opens
 pub mod Last
+pub mod Records

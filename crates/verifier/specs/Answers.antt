@@ -2,11 +2,16 @@
 -- Assumes nothing.
 use Prim.Native.Nat.{ℕ, zero, suc}
 use mathlib.Core.Path.{_≡_}
+use mathlib.Core.Bool.{Bool, true, false}
 use mathlib.Core.List.{List}
+use lib.ListN.{length}
 use Rattle.refusal.specs.Number.{numberOf}
-use Rattle.walk.specs.Session.{Answer, accepted, goOn, refused, Record}
-use Rattle.protocol.specs.Rounds.{Place, place}
-use Rattle.protocol.specs.Session.{openCause, openedAt, stepAnswer}
+use Rattle.circuit.specs.Circuit.{coinCount}
+use Rattle.circuit.specs.Legal.{listsCause}
+use Rattle.walk.specs.Session.{Answer, accepted, goOn, refused, Record, stepFinal}
+use Rattle.protocol.specs.Rounds.{Place, place, placeAfter, isLast}
+use Rattle.protocol.specs.Judge.{inputAgrees, descent}
+use Rattle.protocol.specs.Session.{openCause, openedAt, recordFits, stepAnswer}
 use Rattle.verifier.specs.declared.Outcome.{Outcome}
 use Rattle.verifier.specs.declared.Outcome.the-variants as outcome
 use Rattle.verifier.specs.declared.Verdict.{Verdict}
@@ -46,6 +51,21 @@ abbrev pub verdictOf : Verdict → Answer
 verdictOf verdict.Accepted = accepted
 verdictOf (verdict.GoOn coin) = goOn coin
 verdictOf (verdict.Refused cause) = refused (numberOf cause)
+
+-- a step that nothing is refused of before its message
+pub record Fitting (c input cs : List ℕ) (s : Session) : Type 0 where
+  pub lists : listsCause c input ≡ 0
+  pub counted : length cs ≡ coinCount c
+  pub fits : recordFits c (recordOf s) ≡ true
+
+-- what follows a message that passed, from its coin and the new claim; the last comparison is of all coins
+abbrev pub goesOn : List ℕ → List ℕ → List ℕ → Session → ℕ → ℕ → Bool → Answer × Record Place
+goesOn c input cs s coin y true = stepFinal (descent c input) (inputAgrees c input cs y) (recordOf s)
+goesOn c input cs s coin y false = (goOn coin, record { round = placeAfter c (place (s .layer) (s .round)); claim = y; opened = true })
+
+pub record GoesOn (c input cs : List ℕ) (s : Session) (coin y : ℕ) (r : Stepped) : Type 0 where
+  pub answer : verdictOf (r .verdict) ≡ goesOn c input cs s coin y (isLast c (place (s .layer) (s .round))) .0
+  pub after : recordOf (r .session) ≡ goesOn c input cs s coin y (isLast c (place (s .layer) (s .round))) .1
 
 pub record Steps (c input cs : List ℕ) (s : Session) (m : List ℕ) (r : Stepped) : Type 0 where
   pub answer : verdictOf (r .verdict) ≡ stepAnswer c input cs (recordOf s) m .0

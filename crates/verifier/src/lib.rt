@@ -6,12 +6,14 @@ use summand::MAX_COORDINATES;
 ghost use mathlib.Core.Path.{_≡_};
 ghost use Prim.Native.Nat.{_+_, _*_, _≤_};
 ghost use lib.ListN.{length};
-ghost use Rattle.refusal.specs.Number.{causeOf};
+ghost use Rattle.refusal.specs.Number.{numberOf, causeOf};
 ghost use Rattle.circuit.specs.Limits.{maxExponent};
 ghost use Rattle.circuit.specs.Circuit.{depth, exponentAt, coinCount};
 ghost use Rattle.circuit.specs.Sized.{LayerOf, LegalCircuit};
 ghost use Rattle.verifier.specs.Standing.{AtLayer, AtRound, Finished, gatesFrom, Row};
-ghost use Rattle.verifier.specs.Answers.{openingOf, openAnswer};
+ghost use Rattle.verifier.specs.Answers.{recordOf, openingOf, openAnswer, verdictOf, Fitting, GoesOn};
+ghost use Rattle.walk.specs.Session.{refused, ended};
+ghost use Rattle.protocol.specs.Session.{recordFits};
 ghost use Rattle.protocol.specs.Rounds.{place, layerStart, isLine};
 ghost use Rattle.protocol.specs.Judge.{fixed, pointAt, lineClaim, messageLength, compared, judge, inputAgrees};
 ghost use Rattle.protocol.specs.Check.{needCoins};
@@ -251,4 +253,94 @@ pub fn open(circuit: &[u32], input: &[u32], output: u32, coins: &[u32]) -> Openi
         claim: output,
         open: true,
     })
+}
+
+// Whether a record is open and fits the circuit.
+fn fits(circuit: &[u32], session: Session) -> bool
+    requires { ⌜ LegalCircuit (now circuit) ⌝ }
+    ensures { λ r. ⌜ r ≡ recordFits (now (circuit .entry)) (recordOf session) ⌝ }
+{
+    if !session.open {
+        return false;
+    }
+    if session.layer < 1 {
+        return false;
+    }
+    if circuit[1] < session.layer {
+        return false;
+    }
+    if 2 * exponent(circuit, session.layer as usize) < session.round {
+        return false;
+    }
+    session.claim < circuit[0]
+}
+
+// A refusal that leaves the record.
+fn left(session: Session, cause: Cause) -> Stepped
+    ensures { λ r. ⌜ (verdictOf (r .verdict) ≡ refused (numberOf cause)) × (recordOf (r .session) ≡ recordOf session) ⌝ }
+{
+    Stepped {
+        verdict: Verdict::Refused(cause),
+        session,
+    }
+}
+
+// The end of a session: its figures stay.
+fn ended(session: Session) -> Session
+    ensures { λ r. ⌜ recordOf r ≡ ended (recordOf session) ⌝ }
+{
+    Session {
+        layer: session.layer,
+        round: session.round,
+        claim: session.claim,
+        open: false,
+    }
+}
+
+// After a message that passed: the next round with its coin, or the last comparison.
+fn go_on(
+    circuit: &[u32],
+    input: &[u32],
+    coins: &[u32],
+    session: Session,
+    coin: u32,
+    claim: u32,
+) -> Stepped
+    requires { ⌜ Fitting (now circuit) (now input) (now coins) session ⌝ }
+    ensures { λ r. ⌜ GoesOn (now (circuit .entry)) (now (input .entry)) (now (coins .entry)) session coin claim r ⌝ }
+{
+    if !is_line(circuit, session.layer as usize, session.round as usize) {
+        let next = Session {
+            layer: session.layer,
+            round: session.round + 1,
+            claim,
+            open: true,
+        };
+        return Stepped {
+            verdict: Verdict::GoOn(coin),
+            session: next,
+        };
+    }
+    if session.layer < circuit[1] {
+        let next = Session {
+            layer: session.layer + 1,
+            round: 0,
+            claim,
+            open: true,
+        };
+        return Stepped {
+            verdict: Verdict::GoOn(coin),
+            session: next,
+        };
+    }
+    if input_agrees(circuit, input, coins, claim) {
+        return Stepped {
+            verdict: Verdict::Accepted,
+            session: ended(session),
+        };
+    }
+    Stepped {
+        verdict: Verdict::Refused(Cause::InputDiffers),
+        session: ended(session),
+    }
 }
