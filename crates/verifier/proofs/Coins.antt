@@ -45,6 +45,15 @@ module _ (c : List ℕ) (h : LegalCircuit c) where
         next = omega (arith, next, e, ek) ∙ ap (layerStart c) (sym (add-one (suc l)));
       }
 
+  -- at most 17 coins a layer
+  pub start-few : (i : ℕ) → i ≤ depth c → layerStart c i ≤ 17 * i
+  start-few zero n = omega arith
+  start-few (suc zero) n = omega (arith, start-first c)
+  start-few (suc (suc l)) n =
+      let next : layerStart c (suc (suc l)) ≡ layerStart c (suc l) + 2 * exponentAt c (suc l) + 1 = start-next c l (omega (arith, deep)) in
+      let small = exponent-small c (suc l) (layer-of (suc l) (omega arith)) in
+      omega (arith, next, small, start-few (suc l) (omega arith))
+
   pub count-all : layerStart c (depth c + 1) ≡ coinCount c
   unfolding coinCount
   count-all = ap (layerStart c) (add-one (depth c)) ∙ ap coinsOf (take-all (depth c) (exponents c) (omega (arith, deep)))

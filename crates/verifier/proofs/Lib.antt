@@ -6,3 +6,4 @@ pub mod Coins
 pub mod Opens
 pub mod Last
 pub mod Records
+pub mod Coming

@@ -49,14 +49,22 @@ module _ (c : List ℕ) (h : LegalCircuit c) (s : Record Place) where
         pub fits-far : 2 * exponentAt c (s .round .layer) < s .round .round → false ≡ recordFits c s
         unfolding recordFits
         fits-far l =
-            rw (o, le-leb 1 (s .round .layer) low, le-leb (s .round .layer) (length (exponents c)) (omega (arith, deep)),
-              lt-leb (s .round .round) (2 * exponentAt c (s .round .layer)) l) refl
+            rw (
+              o,
+              le-leb 1 (s .round .layer) low,
+              le-leb (s .round .layer) (length (exponents c)) (omega (arith, deep)),
+              lt-leb (s .round .round) (2 * exponentAt c (s .round .layer)) l,
+            ) refl
 
         pub fits-claim : s .round .round ≤ 2 * exponentAt c (s .round .layer) → ltb (s .claim) (primeOf c) ≡ recordFits c s
         unfolding recordFits
         fits-claim l =
-            rw (o, le-leb 1 (s .round .layer) low, le-leb (s .round .layer) (length (exponents c)) (omega (arith, deep)),
-              le-leb (s .round .round) (2 * exponentAt c (s .round .layer)) l) refl
+            rw (
+              o,
+              le-leb 1 (s .round .layer) low,
+              le-leb (s .round .layer) (length (exponents c)) (omega (arith, deep)),
+              le-leb (s .round .round) (2 * exponentAt c (s .round .layer)) l,
+            ) refl
 
   -- what a fitting record says
   pub record Fit : Type 0 where

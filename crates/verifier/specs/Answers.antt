@@ -8,7 +8,7 @@ use lib.ListN.{length}
 use Rattle.refusal.specs.Number.{numberOf}
 use Rattle.circuit.specs.Circuit.{coinCount}
 use Rattle.circuit.specs.Legal.{listsCause}
-use Rattle.walk.specs.Session.{Answer, accepted, goOn, refused, Record, stepFinal}
+use Rattle.walk.specs.Session.{Answer, accepted, goOn, refused, Record, stepFinal, step}
 use Rattle.protocol.specs.Rounds.{Place, place, placeAfter, isLast}
 use Rattle.protocol.specs.Judge.{inputAgrees, descent}
 use Rattle.protocol.specs.Session.{openCause, openedAt, recordFits, stepAnswer}
@@ -66,6 +66,10 @@ goesOn c input cs s coin y false = (goOn coin, record { round = placeAfter c (pl
 pub record GoesOn (c input cs : List ℕ) (s : Session) (coin y : ℕ) (r : Stepped) : Type 0 where
   pub answer : verdictOf (r .verdict) ≡ goesOn c input cs s coin y (isLast c (place (s .layer) (s .round))) .0
   pub after : recordOf (r .session) ≡ goesOn c input cs s coin y (isLast c (place (s .layer) (s .round))) .1
+
+pub record StepsOpen (c input cs : List ℕ) (s : Session) (m : List ℕ) (r : Stepped) : Type 0 where
+  pub answer : verdictOf (r .verdict) ≡ step (descent c input) cs (recordOf s) m .0
+  pub after : recordOf (r .session) ≡ step (descent c input) cs (recordOf s) m .1
 
 pub record Steps (c input cs : List ℕ) (s : Session) (m : List ℕ) (r : Stepped) : Type 0 where
   pub answer : verdictOf (r .verdict) ≡ stepAnswer c input cs (recordOf s) m .0

@@ -11,7 +11,7 @@ ghost use Rattle.circuit.specs.Limits.{maxExponent};
 ghost use Rattle.circuit.specs.Circuit.{depth, exponentAt, coinCount};
 ghost use Rattle.circuit.specs.Sized.{LayerOf, LegalCircuit};
 ghost use Rattle.verifier.specs.Standing.{AtLayer, AtRound, Finished, gatesFrom, Row};
-ghost use Rattle.verifier.specs.Answers.{recordOf, openingOf, openAnswer, verdictOf, Fitting, GoesOn};
+ghost use Rattle.verifier.specs.Answers.{recordOf, openingOf, openAnswer, verdictOf, Fitting, GoesOn, StepsOpen, Steps};
 ghost use Rattle.walk.specs.Session.{refused, ended};
 ghost use Rattle.protocol.specs.Session.{recordFits};
 ghost use Rattle.protocol.specs.Rounds.{place, layerStart, isLine};
@@ -343,4 +343,54 @@ fn go_on(
         verdict: Verdict::Refused(Cause::InputDiffers),
         session: ended(session),
     }
+}
+
+// A step on an open record that fits.
+fn step_open(
+    circuit: &[u32],
+    input: &[u32],
+    coins: &[u32],
+    session: Session,
+    message: &[u32],
+) -> Stepped
+    requires { ⌜ Fitting (now circuit) (now input) (now coins) session ⌝ }
+    ensures { λ r. ⌜ StepsOpen (now (circuit .entry)) (now (input .entry)) (now (coins .entry)) session (now (message .entry)) r ⌝ }
+{
+    let layer = session.layer as usize;
+    let round = session.round as usize;
+    let n = coins_before(circuit, layer) + round;
+    let judged = judge(circuit, layer, round, &coins[..n], session.claim, message);
+    if let Checked::Refused(cause) = judged {
+        return Stepped {
+            verdict: Verdict::Refused(cause),
+            session: ended(session),
+        };
+    }
+    let coin = coins[n];
+    let claim = polynomial::value_at(Field::of(circuit[0]), message, coin);
+    go_on(circuit, input, coins, session, coin, claim)
+}
+
+// Step: 1 to 9, 11, 12 and 19 leave the record; then the message is judged.
+pub fn step(
+    circuit: &[u32],
+    input: &[u32],
+    coins: &[u32],
+    session: Session,
+    message: &[u32],
+) -> Stepped
+    ensures { λ r. ⌜ Steps (now (circuit .entry)) (now (input .entry)) (now (coins .entry)) session (now (message .entry)) r ⌝ }
+{
+    let lists = legality::check_lists(circuit, input);
+    if let Checked::Refused(cause) = lists {
+        return left(session, cause);
+    }
+    let taken = check_coins(circuit, coins);
+    if let Checked::Refused(cause) = taken {
+        return left(session, cause);
+    }
+    if !fits(circuit, session) {
+        return left(session, Cause::RecordUnfit);
+    }
+    step_open(circuit, input, coins, session, message)
 }

@@ -1,0 +1,210 @@
+use Prim.Native.Nat.{ℕ, _+_}
+use mathlib.Core.Path.{_≡_, refl, sym, ap, _∙_}
+use native.Mathlib.Omega.{arith}
+use lib.ListN.{getD}
+use lib.Seq.{length-take-le}
+use Rattle.algebra.specs.Numbers.{words}
+use Rattle.algebra.specs.Polynomial.{valueAt}
+use Rattle.refusal.specs.Number.{causeOf}
+use Rattle.circuit.proofs.Layers.{prime-modulus}
+use Rattle.verifier.proofs.Records.{legal, own, long}
+use Rattle.verifier.proofs.Coming.{coins-few, coin-inside, at-round, refused-open, passed-open}
+use borrow.Author.Needs.{needs}
+use Rattle.verifier.proofs.step_open.Statement.{statement}
+use Rattle.verifier.proofs.step_open.Tie as tie
+use Rattle.verifier.proofs.step_open.Reads as reads
+use Rattle.verifier.proofs.step_open.Lts as lts
+use Rattle.field.proofs.Field.of.Reads as of-reads
+use Rattle.polynomial.proofs.value_at.Reads as value-at-reads
+use Rattle.verifier.proofs.coins_before.Reads as coins-before-reads
+use Rattle.verifier.proofs.ended.Reads as ended-reads
+use Rattle.verifier.proofs.go_on.Reads as go-on-reads
+use Rattle.verifier.proofs.judge.Reads as judge-reads
+
+-- src/lib.rt:359:17
+cast-layer : tie.Need-cast-layer
+cast-layer c = search needs
+
+-- src/lib.rt:360:17
+cast-round : tie.Need-cast-round
+cast-round c = search needs
+
+-- src/lib.rt:361:13
+coins-before-requires : tie.Need-coins-before-requires
+coins-before-requires c κs =
+    let start = c .before .before .before .before .before .before in
+    let a = start .args in
+    let l = a .circuit .now in
+    let v = a .input .now in
+    let cs = a .coins .now in
+    let s = a .session in
+    let o = own l v cs s (start .pre) in
+    let inside = o .inside in
+    (legal l v cs s (start .pre), o .low, omega arith)
+
+-- src/lib.rt:361:13
+add-n : tie.Need-add-n
+add-n c =
+    let start = c .before .before .before .before .before .before .before in
+    let a = start .args in
+    let l = a .circuit .now in
+    let v = a .input .now in
+    let cs = a .coins .now in
+    let s = a .session in
+    let before = c .coins-before in
+    let n = before .result + s .round in
+    let en = ap (λ (i : ℕ). i + s .round) (before .ensures) in
+    let few = coins-few l v cs s (start .pre) n en in
+    omega arith
+
+-- src/lib.rt:362:47
+slice-aggregate-judge : tie.Need-slice-aggregate-judge
+slice-aggregate-judge c =
+    let start = c .before .before .before .before .before .before .before .before in
+    let a = start .args in
+    let l = a .circuit .now in
+    let v = a .input .now in
+    let cs = a .coins .now in
+    let s = a .session in
+    let before = c .before .coins-before in
+    let n = before .result + s .round in
+    let en = ap (λ (i : ℕ). i + s .round) (before .ensures) in
+    let inside = coin-inside l v cs s (start .pre) n en in
+    sym (length-take-le n cs (omega arith))
+
+-- src/lib.rt:362:9
+judge-requires : tie.Need-judge-requires
+judge-requires c κs =
+    let start = c .before .before .before .before .before .before .before .before in
+    let a = start .args in
+    let l = a .circuit .now in
+    let v = a .input .now in
+    let cs = a .coins .now in
+    let s = a .session in
+    let before = c .before .coins-before in
+    let n = before .result + s .round in
+    let en = ap (λ (i : ℕ). i + s .round) (before .ensures) in
+    at-round l v cs s (start .pre) n en
+
+-- src/lib.rt:363:29
+enum-known-judged : tie.Need-enum-known-judged
+enum-known-judged c = search needs
+
+-- src/lib.rt:366:22
+ended-requires : tie.Need-ended-requires
+ended-requires c κs = search needs
+
+-- src/lib.rt:364:9
+returns : tie.Need-returns
+returns c =
+    let start = c .before .before .before .before .before .before .before .before .before .before .before .before .before in
+    let a = start .args in
+    let l = a .circuit .now in
+    let v = a .input .now in
+    let cs = a .coins .now in
+    let s = a .session in
+    let before = c .before .before .before .before .before .before .coins-before in
+    let n = before .result + s .round in
+    let en = ap (λ (i : ℕ). i + s .round) (before .ensures) in
+    let told = c .before .before .judged .given in
+    refused-open l v cs s (start .pre) n en (a .message .now) (told .0 .0) (sym (ap causeOf (told .1)) ∙ c .before .before .before .before .judge .ensures) _ refl (c .ended .ensures)
+
+enum-told : tie.Need-enum-told
+enum-told c = search needs
+
+-- src/lib.rt:369:16
+mul-coin : tie.Need-mul-coin
+mul-coin c =
+    let start = c .before .before .before .before .before .before .before .before .before .before .before in
+    let a = start .args in
+    let l = a .circuit .now in
+    let v = a .input .now in
+    let cs = a .coins .now in
+    let s = a .session in
+    let before = c .before .before .before .before .coins-before in
+    let n = before .result + s .round in
+    let en = ap (λ (i : ℕ). i + s .round) (before .ensures) in
+    let few = coins-few l v cs s (start .pre) n en in
+    omega arith
+
+-- src/lib.rt:369:16
+shared-slice-read-coin : tie.Need-shared-slice-read-coin
+shared-slice-read-coin c =
+    let start = c .before .before .before .before .before .before .before .before .before .before .before .before in
+    let a = start .args in
+    let l = a .circuit .now in
+    let v = a .input .now in
+    let cs = a .coins .now in
+    let s = a .session in
+    let before = c .before .before .before .before .before .coins-before in
+    let n = before .result + s .round in
+    let en = ap (λ (i : ℕ). i + s .round) (before .ensures) in
+    let inside = coin-inside l v cs s (start .pre) n en in
+    omega arith
+
+-- src/lib.rt:370:48
+shared-slice-read-of : tie.Need-shared-slice-read-of
+shared-slice-read-of c =
+    let start = c .before .before .before .before .before .before .before .before .before .before .before .before .before in
+    let a = start .args in
+    let l = a .circuit .now in
+    let v = a .input .now in
+    let cs = a .coins .now in
+    let s = a .session in
+    let before = c .before .before .before .before .before .before .coins-before in
+    let n = before .result + s .round in
+    let en = ap (λ (i : ℕ). i + s .round) (before .ensures) in
+    let big = long l v cs s (start .pre) in
+    omega arith
+
+-- src/lib.rt:370:38
+of-requires : tie.Need-of-requires
+of-requires c κs = search needs
+
+-- src/lib.rt:370:9
+value-at-requires : tie.Need-value-at-requires
+value-at-requires c κs = search needs
+
+-- src/lib.rt:371:5
+go-on-requires : tie.Need-go-on-requires
+go-on-requires c κs = search needs
+
+-- src/lib.rt:349:1
+returns-2 : tie.Need-returns-2
+returns-2 c =
+    let start = c .before .before .before .before .before .before .before .before .before .before .before .before .before .before .before .before in
+    let a = start .args in
+    let l = a .circuit .now in
+    let v = a .input .now in
+    let cs = a .coins .now in
+    let s = a .session in
+    let before = c .before .before .before .before .before .before .before .before .before .coins-before in
+    let n = before .result + s .round in
+    let en = ap (λ (i : ℕ). i + s .round) (before .ensures) in
+    let told = c .before .before .before .before .before .enum-told .given in
+    let judged = c .before .before .before .before .before .before .before .judge in
+    let f = prime-modulus l (legal l v cs s (start .pre)) _ (c .before .before .of .ensures) in
+    let y = c .before .value-at .ensures ∙ ap (λ (p : ℕ). valueAt (words p) (a .message .now) (getD cs n 0)) f in
+    passed-open l v cs s (start .pre) n en (a .message .now) (sym (judged .ensures) ∙ ap causeOf (told .1)) _ y _ (c .go-on .ensures)
+
+pub step-open-spec : {M : Type 1} → statement M
+step-open-spec =
+    tie.close
+    (tie.spec
+    cast-layer
+    cast-round
+    coins-before-requires
+    add-n
+    slice-aggregate-judge
+    judge-requires
+    enum-known-judged
+    ended-requires
+    returns
+    enum-told
+    mul-coin
+    shared-slice-read-coin
+    shared-slice-read-of
+    of-requires
+    value-at-requires
+    go-on-requires
+    returns-2)
