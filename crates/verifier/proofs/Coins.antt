@@ -1,17 +1,15 @@
 -- Counting the coins before a layer, and the refusals of a coin list.
 -- Assumes nothing.
-use Prim.Native.Nat.{ℕ, zero, suc, _+_, _*_, _≤_, _<_}
+use Prim.Native.Nat.{ℕ, zero, suc, _+_, _*_, _≤_}
 use mathlib.Core.Path.{_≡_, refl, sym, ap, _∙_}
-use mathlib.Core.Bool.{Bool, true, false}
-use mathlib.Core.List.{List, []}
+use mathlib.Core.Bool.{true, false}
+use mathlib.Core.List.{List}
 use native.Mathlib.Numerals.{add-one}
 use native.Mathlib.Omega.{arith}
-use lib.Dec.{eqb}
-use lib.ListN.{length, take}
+use lib.ListN.{length}
 use lib.Seq.{take-all}
 use borrow.Author.Tests.{eq-eqb, ne-eqb}
 use Rattle.lists.proofs.Count.{sum-nil}
-use Rattle.circuit.specs.Limits.{maxDepth, maxExponent}
 use Rattle.circuit.specs.Circuit.{primeOf, depth, exponents, exponentAt, coinCount}
 use Rattle.circuit.specs.Legal.{allBelow}
 use Rattle.circuit.specs.Sized.{LayerOf, LegalCircuit}

@@ -1,11 +1,10 @@
 -- One step: the coins before its round, the judgement and what follows it, the refusals before it.
 -- Assumes nothing.
 use Prim.Native.Nat.{ℕ, zero, suc, _+_, _-_, _*_, _≤_, _<_}
-use mathlib.Core.Path.{_≡_, refl, sym, ap, ap₂, _∙_, subst}
-use mathlib.Core.Bool.{Bool, true, false, _&&_, cond}
+use mathlib.Core.Path.{_≡_, refl, sym, ap, _∙_}
+use mathlib.Core.Bool.{Bool, true, false}
 use mathlib.Core.List.{List, [], _∷_, _++_}
 use native.Mathlib.Nat.{suc-ne-zero}
-use native.Mathlib.Numerals.{add-one}
 use native.Mathlib.Omega.{arith}
 use lib.Dec.{eqb}
 use lib.ListN.{length, take, drop, getD, take-append-drop}
@@ -18,7 +17,6 @@ use Rattle.refusal.specs.declared.Cause.the-variants.{RecordUnfit}
 use Rattle.refusal.proofs.Order.{numbered-suc, refused-first}
 use Rattle.circuit.specs.Circuit.{primeOf, depth, exponents, exponentAt, coinCount}
 use Rattle.circuit.specs.Legal.{allBelow, listsCause}
-use Rattle.circuit.specs.Sized.{LegalCircuit}
 use Rattle.circuit.proofs.Loading.{split-true}
 use Rattle.circuit.proofs.Sized.{length-exponents}
 use Rattle.walk.specs.Session.{Answer, refused, Record, ended, stepFinal, stepLast, stepJudge, stepOpen, step}
@@ -34,7 +32,7 @@ use Rattle.verifier.specs.declared.Session.{Session}
 use Rattle.verifier.specs.declared.Stepped.{Stepped}
 use Rattle.verifier.proofs.Gates.{exponent-small}
 use Rattle.verifier.proofs.Coins.{start-few}
-use Rattle.verifier.proofs.Records.{Fit, legal, own, own-layer}
+use Rattle.verifier.proofs.Records.{legal, own, own-layer}
 
 -- the coins of the layers up to here are among all
 some-coins : (c : List ℕ) (l : ℕ) → layerStart c (suc l) ≤ coinCount c
@@ -174,7 +172,7 @@ module _ (c input cs : List ℕ) (s : Session) (m : List ℕ) where
   left-by k e r answer after =
       let t = numbered-suc k in
       let same : stepAfter (stepCause c input cs (recordOf s)) c input cs (recordOf s) m ≡ (refused (numberOf k), recordOf s) =
-        ap (λ (j : ℕ). stepAfter j c input cs (recordOf s) m) (e ∙ t .1) ∙ ap (λ (j : ℕ). (refused j, recordOf s)) (sym (t .1)) in
+      ap (λ (j : ℕ). stepAfter j c input cs (recordOf s) m) (e ∙ t .1) ∙ ap (λ (j : ℕ). (refused j, recordOf s)) (sym (t .1)) in
       record {
         answer = answer ∙ sym (ap (λ (x : Answer × Record Place). x .0) same);
         after = after ∙ sym (ap (λ (x : Answer × Record Place). x .1) same);

@@ -9,7 +9,6 @@ use native.Mathlib.Omega.{arith}
 use lib.ListN.{length, take, drop, getD}
 use lib.Seq.{drop-drop}
 use Rattle.circuit.specs.Limits.{maxDepth, maxExponent}
-use Rattle.circuit.specs.Gate.{Gate}
 use Rattle.circuit.specs.Circuit.{depth, exponents, exponentAt, outputExponent, widthOf, gatesOf, layersOf, gateCount, gatesStart, gateLayers, gatesAt, wordCount}
 use Rattle.circuit.specs.Sized.{LayerOf, LegalCircuit}
 use Rattle.circuit.proofs.Sized.{length-exponents, width-of, width-small, layer-small, layer-word, count-small}

@@ -1,7 +1,7 @@
 -- The last comparison, as the check computes it.
 -- Assumes nothing.
-use Prim.Native.Nat.{ℕ, zero, suc, _+_, _-_, _*_, _^_, _≤_, _<_}
-use mathlib.Core.Path.{_≡_, refl, sym, ap, ap₂, _∙_, subst}
+use Prim.Native.Nat.{ℕ, suc, _+_, _-_, _^_, _≤_}
+use mathlib.Core.Path.{_≡_, sym, ap, _∙_}
 use mathlib.Core.List.{List}
 use native.Mathlib.Numerals.{add-one}
 use native.Mathlib.Omega.{arith}
@@ -11,9 +11,7 @@ use lib.Seq.{length-take-le}
 use Rattle.algebra.specs.Numbers.{words}
 use Rattle.multilinear.specs.Extension.{extension, halving}
 use Rattle.multilinear.proofs.Words.{halving-on-words}
-use Rattle.circuit.specs.Limits.{maxExponent}
 use Rattle.circuit.specs.Circuit.{primeOf, depth, exponents, exponentAt, inputExponent}
-use Rattle.circuit.specs.Legal.{listsCause}
 use Rattle.circuit.specs.Sized.{LayerOf, LegalCircuit}
 use Rattle.circuit.proofs.Layers.{all-below}
 use Rattle.circuit.proofs.Loading.{legal-lists}

@@ -1,10 +1,10 @@
 -- What a line is compared by, as the check computes it from rows of eight words and a part of the circuit list.
 -- Assumes nothing.
 use Prim.Native.Nat.{ℕ, zero, suc, _+_, _-_, _*_, _/_, _^_, _≤_, _<_}
-use mathlib.Core.Path.{_≡_, refl, sym, ap, ap₂, _∙_, subst}
-use mathlib.Core.List.{List, [], _∷_, _++_}
+use mathlib.Core.Path.{_≡_, refl, sym, ap, ap₂, _∙_}
+use mathlib.Core.List.{List}
 use native.Mathlib.Omega.{arith}
-use lib.ListN.{length, length-drop, take, drop, getD, take-append-drop}
+use lib.ListN.{length, length-drop, take, drop, take-append-drop}
 use lib.Seq.{take-all, drop-drop, length-take-le}
 use Rattle.algebra.specs.Numbers.{words}
 use Rattle.circuit.specs.Limits.{maxExponent}
@@ -13,12 +13,11 @@ use Rattle.circuit.specs.Circuit.{primeOf, depth, exponents, exponentAt, widthO
 use Rattle.circuit.specs.Sized.{LayerOf, LegalCircuit}
 use Rattle.circuit.proofs.Legal.{gates-part}
 use Rattle.circuit.proofs.Sized.{length-exponents}
-use Rattle.sumcheck.specs.Summand.{combined, linePoint}
-use Rattle.sumcheck.proofs.Words.{line-point-length}
+use Rattle.sumcheck.specs.Summand.{combined}
 use Rattle.summand.specs.Gates.{gatesIn}
 use Rattle.protocol.specs.Rounds.{layerStart}
-use Rattle.protocol.specs.Judge.{fixed, lineEnd, pointAt, gatesAbove, lineClaim}
-use Rattle.protocol.proofs.Points.{start-next, point-more}
+use Rattle.protocol.specs.Judge.{fixed, pointAt, gatesAbove, lineClaim}
+use Rattle.protocol.proofs.Points.{point-more}
 use Rattle.verifier.specs.Standing.{AtLayer, AtRound, Row, gatesFrom}
 use Rattle.verifier.proofs.Gates.{exponent-small, exponent-width, gates-at, gates-room}
 use Rattle.verifier.proofs.Points.{point-length}

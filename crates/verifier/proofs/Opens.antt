@@ -1,20 +1,17 @@
 -- The opening's answer, refusal by refusal.
 -- Assumes nothing.
-use Prim.Native.Nat.{ℕ, zero, suc, _≤_, _<_}
+use Prim.Native.Nat.{ℕ, _≤_, _<_}
 use mathlib.Core.Path.{_≡_, refl, sym, ap, _∙_}
-use mathlib.Core.Bool.{Bool, true, false}
 use mathlib.Core.List.{List}
-use lib.Dec.{ltb}
 use borrow.Author.Tests.{lt-ltb, le-ltb}
 use Rattle.refusal.specs.Number.{numberOf}
-use Rattle.refusal.specs.Order.{need, first}
 use Rattle.refusal.specs.declared.Cause.{Cause}
 use Rattle.refusal.proofs.Order.{numbered-suc, refused-first}
 use Rattle.circuit.specs.Circuit.{primeOf}
 use Rattle.circuit.specs.Legal.{listsCause}
 use Rattle.protocol.specs.Check.{needCoins}
 use Rattle.protocol.specs.Session.{openCause, openedAt}
-use Rattle.verifier.specs.Answers.{OpenAnswer, opens, refuses, openedBy, openAnswer}
+use Rattle.verifier.specs.Answers.{opens, refuses, openedBy, openAnswer}
 
 refused-by : (cause : Cause) (n y : ℕ) → numberOf cause ≡ n → refuses (numberOf cause) ≡ openedBy n y
 refused-by cause n y e =

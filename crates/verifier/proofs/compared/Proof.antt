@@ -1,5 +1,7 @@
+-- `compared` meets its contract: the message's values at 0 and at 1 are modulo the circuit's prime.
+-- Assumes nothing.
 use Prim.Native.Nat.{ℕ}
-use mathlib.Core.Path.{_≡_, sym, ap, _∙_}
+use mathlib.Core.Path.{sym, ap, _∙_}
 use Rattle.algebra.specs.Numbers.{words}
 use Rattle.algebra.specs.Polynomial.{valueAt}
 use Rattle.circuit.proofs.Layers.{prime-modulus}
@@ -8,35 +10,22 @@ use Rattle.verifier.proofs.Judging.{at-line, compared-line, compared-su
 use borrow.Author.Needs.{needs}
 use Rattle.verifier.proofs.compared.Statement.{statement}
 use Rattle.verifier.proofs.compared.Tie as tie
-use Rattle.verifier.proofs.compared.Reads as reads
-use Rattle.verifier.proofs.compared.Lts as lts
-use Rattle.field.proofs.Field.add.Reads as add-reads
-use Rattle.field.proofs.Field.of.Reads as of-reads
-use Rattle.polynomial.proofs.value_at.Reads as value-at-reads
-use Rattle.verifier.proofs.is_line.Reads as is-line-reads
-use Rattle.verifier.proofs.line_claim.Reads as line-claim-reads
 
--- src/lib.rt:150:23
 shared-slice-read-of : tie.Need-shared-slice-read-of
 shared-slice-read-of c = search needs
 
--- src/lib.rt:150:9
 of-requires : tie.Need-of-requires
 of-requires c κs = search needs
 
--- src/lib.rt:151:9
 value-at-requires : tie.Need-value-at-requires
 value-at-requires c κs = search needs
 
--- src/lib.rt:152:9
 value-at-requires-2 : tie.Need-value-at-requires-2
 value-at-requires-2 c κs = search needs
 
--- src/lib.rt:153:8
 is-line-requires : tie.Need-is-line-requires
 is-line-requires c κs = search needs
 
--- src/lib.rt:154:9
 line-claim-requires : tie.Need-line-claim-requires
 line-claim-requires c κs =
     let start = c .before .before .before .before .before .before .before .before .before in
@@ -46,7 +35,6 @@ line-claim-requires c κs =
     let r = place (start .args .layer) (start .args .round) in
     at-line l (start .args .layer) (start .args .round) past (start .pre) (sym (c .before .is-line .ensures) ∙ search needs)
 
--- src/lib.rt:154:9
 returns : tie.Need-returns
 returns c =
     let start = c .before .before .before .before .before .before .before .before .before .before in
@@ -61,11 +49,9 @@ returns c =
     let ey = y .ensures ∙ ap (λ (p : ℕ). valueAt (words p) m 1) f in
     compared-line l r past m (x .result) (y .result) (c .line-claim .result) ex ey (sym (c .before .before .is-line .ensures) ∙ search needs) (c .line-claim .ensures)
 
--- src/lib.rt:156:5
 add-requires : tie.Need-add-requires
 add-requires c κs = search needs
 
--- src/lib.rt:146:1
 returns-2 : tie.Need-returns-2
 returns-2 c =
     let start = c .before .before .before .before .before .before .before .before .before .before in

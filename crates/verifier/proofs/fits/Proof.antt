@@ -1,5 +1,7 @@
+-- `fits` meets its contract: condition by condition.
+-- Assumes nothing.
 use Prim.Native.Nat.{ℕ, _*_, _≤_, _<_}
-use mathlib.Core.Path.{_≡_, subst}
+use mathlib.Core.Path.{subst}
 use native.Mathlib.Omega.{arith}
 use Rattle.circuit.proofs.Loading.{not-true, not-false}
 use Rattle.verifier.specs.Answers.{recordOf}
@@ -8,11 +10,7 @@ use Rattle.verifier.proofs.Records.{layer-in, fits-closed, fits-low, fi
 use borrow.Author.Needs.{needs}
 use Rattle.verifier.proofs.fits.Statement.{statement}
 use Rattle.verifier.proofs.fits.Tie as tie
-use Rattle.verifier.proofs.fits.Reads as reads
-use Rattle.verifier.proofs.fits.Lts as lts
-use Rattle.verifier.proofs.exponent.Reads as exponent-reads
 
--- src/lib.rt:264:9
 returns : tie.Need-returns
 returns c =
     let start = c .before .before .before in
@@ -20,7 +18,6 @@ returns c =
     let s = recordOf (start .args .session) in
     fits-closed l (start .pre) s (not-true (c .if1 .taken))
 
--- src/lib.rt:267:9
 returns-2 : tie.Need-returns-2
 returns-2 c =
     let start = c .before .before .before .before .before in
@@ -29,11 +26,9 @@ returns-2 c =
     let o = not-false (c .before .before .if1 .left) in
     fits-low l (start .pre) s o (c .if2 .taken)
 
--- src/lib.rt:269:8
 shared-slice-read-if3 : tie.Need-shared-slice-read-if3
 shared-slice-read-if3 c = search needs
 
--- src/lib.rt:270:9
 returns-3 : tie.Need-returns-3
 returns-3 c =
     let start = c .before .before .before .before .before .before .before .before in
@@ -43,15 +38,12 @@ returns-3 c =
     let low = c .before .before .before .if2 .left in
     fits-deep l (start .pre) s o low (c .if3 .taken)
 
--- src/lib.rt:272:30
 cast-exponent : tie.Need-cast-exponent
 cast-exponent c = search needs
 
--- src/lib.rt:272:12
 exponent-requires : tie.Need-exponent-requires
 exponent-requires c κs = search needs
 
--- src/lib.rt:272:8
 mul-if4 : tie.Need-mul-if4
 mul-if4 c =
     let start = c .before .before .before .before .before .before .before .before .before .before in
@@ -64,7 +56,6 @@ mul-if4 c =
     let small = exponent-small l (s .round .layer) (layer-in l (start .pre) s o low inside) in
     omega (arith, k .ensures)
 
--- src/lib.rt:273:9
 returns-4 : tie.Need-returns-4
 returns-4 c =
     let start = c .before .before .before .before .before .before .before .before .before .before .before .before in
@@ -76,11 +67,9 @@ returns-4 c =
     let k = c .before .before .exponent in
     fits-far l (start .pre) s o low inside (subst (λ (i : ℕ). 2 * i < s .round .round) (k .ensures) (c .if4 .taken))
 
--- src/lib.rt:275:21
 shared-slice-read-result : tie.Need-shared-slice-read-result
 shared-slice-read-result c = search needs
 
--- src/lib.rt:259:1
 returns-5 : tie.Need-returns-5
 returns-5 c =
     let start = c .before .before .before .before .before .before .before .before .before .before .before .before .before .before in

@@ -1,3 +1,5 @@
+-- `gates_from` meets its contract: before turn i the count is of the gates of the layers before i.
+-- Assumes nothing.
 use Prim.Native.Nat.{ℕ, _≤_, _-_, _+_}
 use mathlib.Core.Path.{_≡_, ap, _∙_}
 use lib.ListN.{take}
@@ -7,10 +9,6 @@ use Rattle.circuit.specs.Circuit.{exponents, outputExponent, gateCount}
 use Rattle.verifier.proofs.Gates.{count-none, count-turn, count-so-far, shallow, gates-from}
 use Rattle.verifier.proofs.gates_from.Statement.{statement}
 use Rattle.verifier.proofs.gates_from.Tie as tie
-use Rattle.verifier.proofs.gates_from.Reads as reads
-use Rattle.verifier.proofs.gates_from.Lts as lts
-use Rattle.legality.proofs.width.Reads as width-reads
-use Rattle.verifier.proofs.exponent.Reads as exponent-reads
 
 abbrev Inv-loop : tie.InvT-loop
 Inv-loop circuit layer count₀ i₀ count i = (i ≤ layer) × (count ≡ gateCount outputExponent (take i (exponents circuit)))
@@ -18,19 +16,15 @@ Inv-loop circuit layer count₀ i₀ count i = (i ≤ layer) × (count ≡ gateC
 abbrev μ-loop : tie.MeasureT-loop
 μ-loop circuit layer count₀ i₀ count i = layer - i
 
--- src/lib.rt:62:5
 loop-holds : tie.Need-loop-holds Inv-loop μ-loop
 loop-holds c = (search needs, count-none (c .before .args .circuit .now))
 
--- src/lib.rt:63:34
 exponent-requires : tie.Need-exponent-requires Inv-loop μ-loop
 exponent-requires c κs = search needs
 
--- src/lib.rt:63:18
 width-requires : tie.Need-width-requires Inv-loop μ-loop
 width-requires c κs = search needs
 
--- src/lib.rt:63:9
 add-count : tie.Need-add-count Inv-loop μ-loop
 add-count c =
     let at = c .before .before .before in
@@ -41,15 +35,12 @@ add-count c =
     let small = count-so-far l (start .pre .0) (at .loop .i + 1) _ next in
     omega arith
 
--- src/lib.rt:62:9
 add-i : tie.Need-add-i Inv-loop μ-loop
 add-i c = search needs
 
--- src/lib.rt:62:5
 loop-less : tie.Need-loop-less Inv-loop μ-loop
 loop-less c = search needs
 
--- src/lib.rt:62:5
 loop-again : tie.Need-loop-again Inv-loop μ-loop
 loop-again c =
     let at = c .before .before .before in
@@ -59,19 +50,15 @@ loop-again c =
     (c .before .exponent .ensures) (c .width .ensures) in
     (search needs, next)
 
--- src/lib.rt:65:9
 shared-slice-read-result : tie.Need-shared-slice-read-result Inv-loop μ-loop
 shared-slice-read-result c = search needs
 
--- src/lib.rt:65:9
 cast-result : tie.Need-cast-result Inv-loop μ-loop
 cast-result c = search needs
 
--- src/lib.rt:65:5
 add-result : tie.Need-add-result Inv-loop μ-loop
 add-result c = search needs
 
--- src/lib.rt:65:31
 mul-result : tie.Need-mul-result Inv-loop μ-loop
 mul-result c =
     let at = c .before .before in
@@ -80,7 +67,6 @@ mul-result c =
     let low = shallow (start .args .circuit .now) (start .pre .0) in
     omega arith
 
--- src/lib.rt:65:5
 add-result-2 : tie.Need-add-result-2 Inv-loop μ-loop
 add-result-2 c =
     let at = c .before .before in
@@ -89,7 +75,6 @@ add-result-2 c =
     let low = shallow (start .args .circuit .now) (start .pre .0) in
     omega arith
 
--- src/lib.rt:57:1
 returns : tie.Need-returns Inv-loop μ-loop
 returns c =
     let at = c .before .before in

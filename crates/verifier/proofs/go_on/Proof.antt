@@ -1,25 +1,19 @@
-use mathlib.Core.Path.{_≡_, refl, sym, _∙_}
+-- `go_on` meets its contract: the next round, the next layer, or the last comparison.
+-- Assumes nothing.
+use mathlib.Core.Path.{refl, sym, _∙_}
 use native.Mathlib.Omega.{arith}
 use Rattle.circuit.proofs.Loading.{not-true, not-false}
-use Rattle.verifier.proofs.Records.{own-layer, long, small-round, small-layer, finished, goes-round, goes-layer, goes-accepted, goes-refused}
+use Rattle.verifier.proofs.Records.{own-layer, long, small-round, small-layer, goes-round, goes-layer, goes-accepted, goes-refused}
 use borrow.Author.Needs.{needs}
 use Rattle.verifier.proofs.go_on.Statement.{statement}
 use Rattle.verifier.proofs.go_on.Tie as tie
-use Rattle.verifier.proofs.go_on.Reads as reads
-use Rattle.verifier.proofs.go_on.Lts as lts
-use Rattle.verifier.proofs.ended.Reads as ended-reads
-use Rattle.verifier.proofs.input_agrees.Reads as input-agrees-reads
-use Rattle.verifier.proofs.is_line.Reads as is-line-reads
 
--- src/lib.rt:312:26
 cast-is-line : tie.Need-cast-is-line
 cast-is-line c = search needs
 
--- src/lib.rt:312:50
 cast-is-line-2 : tie.Need-cast-is-line-2
 cast-is-line-2 c = search needs
 
--- src/lib.rt:312:9
 is-line-requires : tie.Need-is-line-requires
 is-line-requires c κs =
     let start = c .before .before .before .before .before in
@@ -30,7 +24,6 @@ is-line-requires c κs =
     let s = a .session in
     own-layer l v cs s (start .pre)
 
--- src/lib.rt:315:20
 add-t13 : tie.Need-add-t13
 add-t13 c =
     let start = c .before .before .before .before .before .before .before .before in
@@ -42,7 +35,6 @@ add-t13 c =
     let low = small-round l v cs s (start .pre) in
     omega arith
 
--- src/lib.rt:319:9
 returns : tie.Need-returns
 returns c =
     let start = c .before .before .before .before .before .before .before .before in
@@ -53,7 +45,6 @@ returns c =
     let s = a .session in
     goes-round l v cs s (start .pre) (a .coin) (a .claim) (sym (c .before .before .is-line .ensures) ∙ not-true (c .before .if1 .taken)) _ refl refl
 
--- src/lib.rt:324:24
 shared-slice-read-if2 : tie.Need-shared-slice-read-if2
 shared-slice-read-if2 c =
     let start = c .before .before .before .before .before .before .before .before in
@@ -65,7 +56,6 @@ shared-slice-read-if2 c =
     let big = long l v cs s (start .pre) in
     omega arith
 
--- src/lib.rt:326:20
 add-t17 : tie.Need-add-t17
 add-t17 c =
     let start = c .before .before .before .before .before .before .before .before .before .before .before in
@@ -77,7 +67,6 @@ add-t17 c =
     let low = small-layer l v cs s (start .pre) in
     omega arith
 
--- src/lib.rt:331:9
 returns-2 : tie.Need-returns-2
 returns-2 c =
     let start = c .before .before .before .before .before .before .before .before .before .before .before in
@@ -89,15 +78,12 @@ returns-2 c =
     let line = c .before .before .before .before in
     goes-layer l v cs s (start .pre) (a .coin) (a .claim) (sym (line .before .is-line .ensures) ∙ not-false (line .if1 .left)) (c .before .if2 .taken) _ refl refl
 
--- src/lib.rt:336:8
 input-agrees-requires : tie.Need-input-agrees-requires
 input-agrees-requires c κs = search needs
 
--- src/lib.rt:339:22
 ended-requires : tie.Need-ended-requires
 ended-requires c κs = search needs
 
--- src/lib.rt:337:9
 returns-3 : tie.Need-returns-3
 returns-3 c =
     let start = c .before .before .before .before .before .before .before .before .before .before .before .before .before in
@@ -110,11 +96,9 @@ returns-3 c =
     goes-accepted l v cs s (start .pre) (a .coin) (a .claim) (sym (line .before .is-line .ensures) ∙ not-false (line .if1 .left)) (search needs) _ (c .ended .ensures)
     (sym (c .before .before .input-agrees .ensures) ∙ search needs) refl
 
--- src/lib.rt:344:18
 ended-requires-2 : tie.Need-ended-requires-2
 ended-requires-2 c κs = search needs
 
--- src/lib.rt:301:1
 returns-4 : tie.Need-returns-4
 returns-4 c =
     let start = c .before .before .before .before .before .before .before .before .before .before .before .before .before in

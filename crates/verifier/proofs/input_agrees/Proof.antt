@@ -1,5 +1,7 @@
+-- `input_agrees` meets its contract: the row of the point holds the coordinates that the input has.
+-- Assumes nothing.
 use Prim.Native.Nat.{ℕ}
-use mathlib.Core.Path.{_≡_, ap, _∙_}
+use mathlib.Core.Path.{ap, _∙_}
 use native.Mathlib.Omega.{arith}
 use lib.ListN.{take}
 use Rattle.algebra.specs.Numbers.{words}
@@ -9,14 +11,7 @@ use Rattle.verifier.proofs.Last.{legal, long, shallow, behind-last, las
 use borrow.Author.Needs.{needs}
 use Rattle.verifier.proofs.input_agrees.Statement.{statement}
 use Rattle.verifier.proofs.input_agrees.Tie as tie
-use Rattle.verifier.proofs.input_agrees.Reads as reads
-use Rattle.verifier.proofs.input_agrees.Lts as lts
-use Rattle.extension.proofs.extend.Reads as extend-reads
-use Rattle.field.proofs.Field.of.Reads as of-reads
-use Rattle.verifier.proofs.exponent.Reads as exponent-reads
-use Rattle.verifier.proofs.standing_point.Reads as standing-point-reads
 
--- src/lib.rt:193:17
 shared-slice-read-depth : tie.Need-shared-slice-read-depth
 shared-slice-read-depth c =
     let start = c .before .before .before .before in
@@ -26,7 +21,6 @@ shared-slice-read-depth c =
     let big = long l v cs (start .pre) in
     omega arith
 
--- src/lib.rt:193:17
 cast-depth : tie.Need-cast-depth
 cast-depth c =
     let start = c .before .before .before .before in
@@ -36,7 +30,6 @@ cast-depth c =
     let low = shallow l v cs (start .pre) in
     omega arith
 
--- src/lib.rt:194:41
 add-standing-point : tie.Need-add-standing-point
 add-standing-point c =
     let start = c .before .before .before .before in
@@ -46,7 +39,6 @@ add-standing-point c =
     let low = shallow l v cs (start .pre) in
     omega arith
 
--- src/lib.rt:194:17
 standing-point-requires : tie.Need-standing-point-requires
 standing-point-requires c κs =
     let start = c .before .before .before .before in
@@ -55,7 +47,6 @@ standing-point-requires c κs =
     let cs = start .args .coins .now in
     behind-last l v cs (start .pre)
 
--- src/lib.rt:195:13
 exponent-requires : tie.Need-exponent-requires
 exponent-requires c κs =
     let start = c .before .before .before .before .before in
@@ -64,11 +55,9 @@ exponent-requires c κs =
     let cs = start .args .coins .now in
     last-layer l v cs (start .pre)
 
--- src/lib.rt:195:13
 cast-k : tie.Need-cast-k
 cast-k c = search needs
 
--- src/lib.rt:196:33
 shared-slice-read-of : tie.Need-shared-slice-read-of
 shared-slice-read-of c =
     let start = c .before .before .before .before .before .before .before in
@@ -78,11 +67,9 @@ shared-slice-read-of c =
     let big = long l v cs (start .pre) in
     omega arith
 
--- src/lib.rt:196:23
 of-requires : tie.Need-of-requires
 of-requires c κs = search needs
 
--- src/lib.rt:196:53
 array-share-prefix-point : tie.Need-array-share-prefix-point
 array-share-prefix-point c =
     let start = c .before .before .before .before .before .before .before .before in
@@ -92,7 +79,6 @@ array-share-prefix-point c =
     front l v cs (start .pre) (c .before .before .exponent .result) (c .before .before .before .standing-point .result) (c .before .before .exponent .ensures)
     (c .before .before .before .standing-point .ensures) .0
 
--- src/lib.rt:196:53
 slice-aggregate-extend : tie.Need-slice-aggregate-extend
 slice-aggregate-extend c =
     let start = c .before .before .before .before .before .before .before .before .before in
@@ -102,11 +88,9 @@ slice-aggregate-extend c =
     front l v cs (start .pre) (c .before .before .before .exponent .result) (c .before .before .before .before .standing-point .result) (c .before .before .before .exponent .ensures)
     (c .before .before .before .before .standing-point .ensures) .1
 
--- src/lib.rt:196:5
 extend-requires : tie.Need-extend-requires
 extend-requires c κs = search needs
 
--- src/lib.rt:189:1
 returns : tie.Need-returns
 returns c =
     let start = c .before .before .before .before .before .before .before .before .before .before in

@@ -1,3 +1,5 @@
+-- `line_claim` meets its contract: the last 2k coins are the two points, and the part of the list holds the gates above.
+-- Assumes nothing.
 use Prim.Native.Nat.{ℕ, _+_, _-_, _*_}
 use mathlib.Core.Path.{_≡_, refl, sym, subst}
 use native.Mathlib.Omega.{arith}
@@ -14,49 +16,31 @@ use Rattle.verifier.proofs.Lines.{line-sizes, above-inside, at-layer, p
 use borrow.Author.Needs.{needs}
 use Rattle.verifier.proofs.line_claim.Statement.{statement}
 use Rattle.verifier.proofs.line_claim.Tie as tie
-use Rattle.verifier.proofs.line_claim.Reads as reads
-use Rattle.verifier.proofs.line_claim.Lts as lts
-use Rattle.field.proofs.Field.of.Reads as of-reads
-use Rattle.legality.proofs.width.Reads as width-reads
-use Rattle.summand.proofs.combined.Reads as combined-reads
-use Rattle.verifier.proofs.exponent.Reads as exponent-reads
-use Rattle.verifier.proofs.gates_from.Reads as gates-from-reads
-use Rattle.verifier.proofs.row.Reads as row-reads
-use Rattle.verifier.proofs.standing_point.Reads as standing-point-reads
 
--- src/lib.rt:125:13
 exponent-requires : tie.Need-exponent-requires
 exponent-requires c κs = search needs
 
--- src/lib.rt:125:13
 cast-k : tie.Need-cast-k
 cast-k c = search needs
 
--- src/lib.rt:127:13
 sub-v : tie.Need-sub-v
 sub-v c = search needs
 
--- src/lib.rt:128:13
 sub-u : tie.Need-sub-u
 sub-u c = search needs
 
--- src/lib.rt:129:23
 mul-row : tie.Need-mul-row
 mul-row c = search needs
 
--- src/lib.rt:129:23
 sub-row : tie.Need-sub-row
 sub-row c = search needs
 
--- src/lib.rt:129:23
 part-row-start : tie.Need-part-row-start
 part-row-start c = search needs
 
--- src/lib.rt:129:23
 part-row-end : tie.Need-part-row-end
 part-row-end c = search needs
 
--- src/lib.rt:129:19
 row-requires : tie.Need-row-requires
 row-requires c κs =
     let at = c .before in
@@ -70,23 +54,18 @@ row-requires c κs =
     let v = length past - k in
     take-short (v - (v - k)) maxExponent (drop (v - k) past) (omega arith)
 
--- src/lib.rt:129:41
 mul-row-2 : tie.Need-mul-row-2
 mul-row-2 c = search needs
 
--- src/lib.rt:129:41
 sub-row-2 : tie.Need-sub-row-2
 sub-row-2 c = search needs
 
--- src/lib.rt:129:41
 part-row-start-2 : tie.Need-part-row-start-2
 part-row-start-2 c = search needs
 
--- src/lib.rt:129:41
 part-row-end-2 : tie.Need-part-row-end-2
 part-row-end-2 c = search needs
 
--- src/lib.rt:129:37
 row-requires-2 : tie.Need-row-requires-2
 row-requires-2 c κs =
     let at = c .before .before .before in
@@ -100,7 +79,6 @@ row-requires-2 c κs =
     let v = length past - k in
     take-short (length past - v) maxExponent (drop v past) (omega arith)
 
--- src/lib.rt:130:48
 slice-aggregate-standing-point : tie.Need-slice-aggregate-standing-point
 slice-aggregate-standing-point c =
     let at = c .before .before .before .before .before in
@@ -114,7 +92,6 @@ slice-aggregate-standing-point c =
     let v = length past - k in
     sym (length-take-le (v - k) past (omega arith))
 
--- src/lib.rt:130:17
 standing-point-requires : tie.Need-standing-point-requires
 standing-point-requires c κs =
     let at = c .before .before .before .before .before in
@@ -128,27 +105,21 @@ standing-point-requires c κs =
     let v = length past - k in
     at-layer l (start .args .layer) past (start .pre) (v - k) (sizes .start)
 
--- src/lib.rt:131:35
 sub-exponent : tie.Need-sub-exponent
 sub-exponent c = search needs
 
--- src/lib.rt:131:9
 exponent-requires-2 : tie.Need-exponent-requires-2
 exponent-requires-2 c κs = search needs
 
--- src/lib.rt:132:36
 sub-gates-from : tie.Need-sub-gates-from
 sub-gates-from c = search needs
 
--- src/lib.rt:132:9
 gates-from-requires : tie.Need-gates-from-requires
 gates-from-requires c κs = search needs
 
--- src/lib.rt:133:25
 width-requires : tie.Need-width-requires
 width-requires c κs = search needs
 
--- src/lib.rt:133:21
 mul-to : tie.Need-mul-to
 mul-to c =
     let sums = c in
@@ -160,7 +131,6 @@ mul-to c =
     let small = part .small in
     omega arith
 
--- src/lib.rt:133:14
 add-to : tie.Need-add-to
 add-to c =
     let sums = c in
@@ -172,15 +142,12 @@ add-to c =
     let small = part .small in
     omega arith
 
--- src/lib.rt:135:19
 shared-slice-read-of : tie.Need-shared-slice-read-of
 shared-slice-read-of c = search needs
 
--- src/lib.rt:135:9
 of-requires : tie.Need-of-requires
 of-requires c κs = search needs
 
--- src/lib.rt:136:9
 mul-combined : tie.Need-mul-combined
 mul-combined c =
     let sums = c .before .before in
@@ -192,15 +159,12 @@ mul-combined c =
     let small = part .small in
     omega arith
 
--- src/lib.rt:136:9
 sub-combined : tie.Need-sub-combined
 sub-combined c = search needs
 
--- src/lib.rt:136:9
 part-combined-start : tie.Need-part-combined-start
 part-combined-start c = search needs
 
--- src/lib.rt:136:9
 part-combined-end : tie.Need-part-combined-end
 part-combined-end c =
     let sums = c .before .before in
@@ -212,11 +176,9 @@ part-combined-end c =
     let small = part .small in
     omega arith
 
--- src/lib.rt:137:18
 cast-point : tie.Need-cast-point
 cast-point c = search needs
 
--- src/lib.rt:137:9
 array-share-prefix-point : tie.Need-array-share-prefix-point
 array-share-prefix-point c =
     let at = c .before .before .before .before .before .before .before .before .before .before .before .before in
@@ -232,7 +194,6 @@ array-share-prefix-point c =
     (c .before .before .before .before .before .exponent2 .ensures) (c .before .before .before .before .before .before .standing-point .ensures) in
     fits .0
 
--- src/lib.rt:137:9
 slice-aggregate-combined : tie.Need-slice-aggregate-combined
 slice-aggregate-combined c =
     let at = c .before .before .before .before .before .before .before .before .before .before .before .before .before in
@@ -248,11 +209,9 @@ slice-aggregate-combined c =
     (c .before .before .before .before .before .before .exponent2 .ensures) (c .before .before .before .before .before .before .before .standing-point .ensures) in
     fits .1
 
--- src/lib.rt:134:5
 combined-requires : tie.Need-combined-requires
 combined-requires c κs = search needs
 
--- src/lib.rt:121:1
 returns : tie.Need-returns
 returns c =
     let at = c .before .before .before .before .before .before .before .before .before .before .before .before .before .before in

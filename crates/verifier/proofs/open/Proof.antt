@@ -1,4 +1,6 @@
-use mathlib.Core.Path.{_≡_, sym, ap, _∙_}
+-- `open` meets its contract: refusal by refusal.
+-- Assumes nothing.
+use mathlib.Core.Path.{sym, ap, _∙_}
 use native.Mathlib.Omega.{arith}
 use Rattle.refusal.specs.Number.{causeOf}
 use Rattle.circuit.proofs.Loading.{legal-lists}
@@ -6,20 +8,13 @@ use Rattle.verifier.proofs.Opens.{open-lists, open-output, open-coins, 
 use borrow.Author.Needs.{needs}
 use Rattle.verifier.proofs.open.Statement.{statement}
 use Rattle.verifier.proofs.open.Tie as tie
-use Rattle.verifier.proofs.open.Reads as reads
-use Rattle.verifier.proofs.open.Lts as lts
-use Rattle.legality.proofs.check_lists.Reads as check-lists-reads
-use Rattle.verifier.proofs.check_coins.Reads as check-coins-reads
 
--- src/lib.rt:237:9
 check-lists-requires : tie.Need-check-lists-requires
 check-lists-requires c κs = search needs
 
--- src/lib.rt:238:29
 enum-known-lists : tie.Need-enum-known-lists
 enum-known-lists c = search needs
 
--- src/lib.rt:239:9
 returns : tie.Need-returns
 returns c =
     let told = c .before .lists .given in
@@ -28,7 +23,6 @@ returns c =
 enum-told : tie.Need-enum-told
 enum-told c = search needs
 
--- src/lib.rt:241:8
 shared-slice-read-if1 : tie.Need-shared-slice-read-if1
 shared-slice-read-if1 c =
     let told = c .before in
@@ -41,7 +35,6 @@ shared-slice-read-if1 c =
     let long = legal .circuit .sized .headed .long in
     omega arith
 
--- src/lib.rt:242:9
 returns-2 : tie.Need-returns-2
 returns-2 c =
     let told = c .before .before in
@@ -53,7 +46,6 @@ returns-2 c =
     let legal = legal-lists l v none in
     open-output l v (a .output) (a .coins .now) none (c .if1 .taken)
 
--- src/lib.rt:244:9
 check-coins-requires : tie.Need-check-coins-requires
 check-coins-requires c κs =
     let told = c .before .before in
@@ -65,11 +57,9 @@ check-coins-requires c κs =
     let legal = legal-lists l v none in
     legal .circuit
 
--- src/lib.rt:245:29
 enum-known-taken : tie.Need-enum-known-taken
 enum-known-taken c = search needs
 
--- src/lib.rt:246:9
 returns-3 : tie.Need-returns-3
 returns-3 c =
     let told = c .before .before .before .before .before .before in
@@ -85,7 +75,6 @@ returns-3 c =
 enum-told-2 : tie.Need-enum-told-2
 enum-told-2 c = search needs
 
--- src/lib.rt:234:1
 returns-4 : tie.Need-returns-4
 returns-4 c =
     let told = c .before .before .before .before .before in

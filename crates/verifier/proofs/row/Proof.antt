@@ -1,3 +1,5 @@
+-- `row` meets its contract: i coordinates stand over the front of the row.
+-- Assumes nothing.
 use Prim.Native.Nat.{ℕ, _≤_, _-_}
 use mathlib.Core.Path.{_≡_, ap, _∙_}
 use mathlib.Core.List.{List}
@@ -9,8 +11,6 @@ use Rattle.lists.proofs.Buffer.{over-next, over-all, take-over}
 use Rattle.circuit.specs.Limits.{maxExponent}
 use Rattle.verifier.proofs.row.Statement.{statement}
 use Rattle.verifier.proofs.row.Tie as tie
-use Rattle.verifier.proofs.row.Reads as reads
-use Rattle.verifier.proofs.row.Lts as lts
 
 abbrev Inv-loop : tie.InvT-loop
 Inv-loop coordinates row₀ i₀ i-end row i =
@@ -19,35 +19,27 @@ Inv-loop coordinates row₀ i₀ i-end row i =
 abbrev μ-loop : tie.MeasureT-loop
 μ-loop coordinates row₀ i₀ i-end row i = length coordinates - i
 
--- src/lib.rt:74:5
 loop-holds : tie.Need-loop-holds Inv-loop μ-loop
 loop-holds c = search needs
 
--- src/lib.rt:75:18
 mul-row : tie.Need-mul-row Inv-loop μ-loop
 mul-row c = search needs
 
--- src/lib.rt:75:18
 shared-slice-read-row : tie.Need-shared-slice-read-row Inv-loop μ-loop
 shared-slice-read-row c = search needs
 
--- src/lib.rt:75:9
 mul-row-2 : tie.Need-mul-row-2 Inv-loop μ-loop
 mul-row-2 c = search needs
 
--- src/lib.rt:75:9
 array-write-row : tie.Need-array-write-row Inv-loop μ-loop
 array-write-row c = search needs
 
--- src/lib.rt:74:9
 add-i : tie.Need-add-i Inv-loop μ-loop
 add-i c = search needs
 
--- src/lib.rt:74:5
 loop-less : tie.Need-loop-less Inv-loop μ-loop
 loop-less c = search needs
 
--- src/lib.rt:74:5
 loop-again : tie.Need-loop-again Inv-loop μ-loop
 loop-again c =
     let at = c .before .before in
@@ -61,7 +53,6 @@ loop-again c =
       ap (λ (b : List ℕ). set b i (getD l i 0)) (at .loop .inv .3) ∙ over-next l _ i 0 (search needs) (omega arith),
     )
 
--- src/lib.rt:69:1
 returns : tie.Need-returns Inv-loop μ-loop
 returns c =
     let at = c .before in

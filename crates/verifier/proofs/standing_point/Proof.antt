@@ -1,39 +1,30 @@
+-- `standing_point` meets its contract: the last 2k + 1 coins are those of the layer above, and its line ends at the point.
+-- Assumes nothing.
 use Prim.Native.Nat.{ℕ, _-_}
 use lib.ListN.{length, drop, getD}
-use mathlib.Core.Path.{_≡_, refl, ap, _∙_}
+use mathlib.Core.Path.{refl, ap, _∙_}
 use native.Mathlib.Omega.{arith}
 use Rattle.algebra.specs.Numbers.{words}
 use Rattle.circuit.specs.Limits.{maxExponent}
 use Rattle.circuit.proofs.Layers.{prime-modulus}
 use Rattle.sumcheck.specs.Summand.{linePoint}
-use Rattle.verifier.proofs.Points.{standing-sizes, standing-row, first-row, take-short}
+use Rattle.verifier.proofs.Points.{standing-sizes, standing-row, take-short}
 use borrow.Author.Needs.{needs}
 use Rattle.verifier.proofs.standing_point.Statement.{statement}
 use Rattle.verifier.proofs.standing_point.Tie as tie
-use Rattle.verifier.proofs.standing_point.Reads as reads
-use Rattle.verifier.proofs.standing_point.Lts as lts
-use Rattle.field.proofs.Field.of.Reads as of-reads
-use Rattle.summand.proofs.line_point.Reads as line-point-reads
-use Rattle.verifier.proofs.exponent.Reads as exponent-reads
-use Rattle.verifier.proofs.row.Reads as row-reads
 
--- src/lib.rt:88:9
 returns : tie.Need-returns
 returns c = search needs
 
--- src/lib.rt:90:31
 sub-exponent : tie.Need-sub-exponent
 sub-exponent c = search needs
 
--- src/lib.rt:90:13
 exponent-requires : tie.Need-exponent-requires
 exponent-requires c κs = search needs
 
--- src/lib.rt:90:13
 cast-k : tie.Need-cast-k
 cast-k c = search needs
 
--- src/lib.rt:91:13
 sub-t : tie.Need-sub-t
 sub-t c =
     let at = c in
@@ -43,7 +34,6 @@ sub-t c =
     let small = sizes .small in
     omega arith
 
--- src/lib.rt:92:13
 sub-v : tie.Need-sub-v
 sub-v c =
     let at = c in
@@ -53,7 +43,6 @@ sub-v c =
     let small = sizes .small in
     omega arith
 
--- src/lib.rt:93:13
 sub-u : tie.Need-sub-u
 sub-u c =
     let at = c in
@@ -63,23 +52,18 @@ sub-u c =
     let small = sizes .small in
     omega arith
 
--- src/lib.rt:94:23
 mul-row : tie.Need-mul-row
 mul-row c = search needs
 
--- src/lib.rt:94:23
 sub-row : tie.Need-sub-row
 sub-row c = search needs
 
--- src/lib.rt:94:23
 part-row-start : tie.Need-part-row-start
 part-row-start c = search needs
 
--- src/lib.rt:94:23
 part-row-end : tie.Need-part-row-end
 part-row-end c = search needs
 
--- src/lib.rt:94:19
 row-requires : tie.Need-row-requires
 row-requires c κs =
     let at = c .before in
@@ -93,23 +77,18 @@ row-requires c κs =
     let v = t - k in
     take-short (v - (v - k)) maxExponent (drop (v - k) past) (omega arith)
 
--- src/lib.rt:94:41
 mul-row-2 : tie.Need-mul-row-2
 mul-row-2 c = search needs
 
--- src/lib.rt:94:41
 sub-row-2 : tie.Need-sub-row-2
 sub-row-2 c = search needs
 
--- src/lib.rt:94:41
 part-row-start-2 : tie.Need-part-row-start-2
 part-row-start-2 c = search needs
 
--- src/lib.rt:94:41
 part-row-end-2 : tie.Need-part-row-end-2
 part-row-end-2 c = search needs
 
--- src/lib.rt:94:37
 row-requires-2 : tie.Need-row-requires-2
 row-requires-2 c κs =
     let at = c .before .before .before in
@@ -123,19 +102,15 @@ row-requires-2 c κs =
     let v = t - k in
     take-short (t - v) maxExponent (drop v past) (omega arith)
 
--- src/lib.rt:95:35
 shared-slice-read-of : tie.Need-shared-slice-read-of
 shared-slice-read-of c = search needs
 
--- src/lib.rt:95:25
 of-requires : tie.Need-of-requires
 of-requires c κs = search needs
 
--- src/lib.rt:95:56
 mul-line-point : tie.Need-mul-line-point
 mul-line-point c = search needs
 
--- src/lib.rt:95:56
 shared-slice-read-line-point : tie.Need-shared-slice-read-line-point
 shared-slice-read-line-point c =
     let at = c .before .before .before .before .before .before .before in
@@ -145,11 +120,9 @@ shared-slice-read-line-point c =
     let small = sizes .small in
     omega arith
 
--- src/lib.rt:95:5
 line-point-requires : tie.Need-line-point-requires
 line-point-requires c κs = search needs
 
--- src/lib.rt:83:1
 returns-2 : tie.Need-returns-2
 returns-2 c =
     let at = c .before .before .before .before .before .before .before .before in

@@ -1,31 +1,22 @@
-use mathlib.Core.Path.{_≡_, sym, ap, _∙_}
+-- `step` meets its contract: refusal by refusal.
+-- Assumes nothing.
+use mathlib.Core.Path.{sym, ap, _∙_}
 use Rattle.refusal.specs.Number.{causeOf}
 use Rattle.circuit.proofs.Loading.{legal-lists, not-true, not-false}
 use Rattle.verifier.proofs.Coming.{left-lists, left-coins, left-record, fitting, steps-open}
 use borrow.Author.Needs.{needs}
 use Rattle.verifier.proofs.step.Statement.{statement}
 use Rattle.verifier.proofs.step.Tie as tie
-use Rattle.verifier.proofs.step.Reads as reads
-use Rattle.verifier.proofs.step.Lts as lts
-use Rattle.legality.proofs.check_lists.Reads as check-lists-reads
-use Rattle.verifier.proofs.check_coins.Reads as check-coins-reads
-use Rattle.verifier.proofs.fits.Reads as fits-reads
-use Rattle.verifier.proofs.left.Reads as left-reads
-use Rattle.verifier.proofs.step_open.Reads as step-open-reads
 
--- src/lib.rt:384:9
 check-lists-requires : tie.Need-check-lists-requires
 check-lists-requires c κs = search needs
 
--- src/lib.rt:385:29
 enum-known-lists : tie.Need-enum-known-lists
 enum-known-lists c = search needs
 
--- src/lib.rt:386:9
 left-requires : tie.Need-left-requires
 left-requires c κs = search needs
 
--- src/lib.rt:386:9
 returns : tie.Need-returns
 returns c =
     let start = c .before .before .before .before .before .before .before .before .before in
@@ -41,7 +32,6 @@ returns c =
 enum-told : tie.Need-enum-told
 enum-told c = search needs
 
--- src/lib.rt:388:9
 check-coins-requires : tie.Need-check-coins-requires
 check-coins-requires c κs =
     let start = c .before .before .before .before .before .before .before in
@@ -54,15 +44,12 @@ check-coins-requires c κs =
     let none = sym (c .before .before .check-lists .ensures) ∙ ap causeOf (c .enum-told .given .1) in
     legal-lists l v none .circuit
 
--- src/lib.rt:389:29
 enum-known-taken : tie.Need-enum-known-taken
 enum-known-taken c = search needs
 
--- src/lib.rt:390:9
 left-requires-2 : tie.Need-left-requires-2
 left-requires-2 c κs = search needs
 
--- src/lib.rt:390:9
 returns-2 : tie.Need-returns-2
 returns-2 c =
     let start = c .before .before .before .before .before .before .before .before .before .before .before .before in
@@ -79,7 +66,6 @@ returns-2 c =
 enum-told-2 : tie.Need-enum-told-2
 enum-told-2 c = search needs
 
--- src/lib.rt:392:9
 fits-requires : tie.Need-fits-requires
 fits-requires c κs =
     let start = c .before .before .before .before .before .before .before .before .before .before in
@@ -92,11 +78,9 @@ fits-requires c κs =
     let none = sym (c .before .before .before .before .before .check-lists .ensures) ∙ ap causeOf (c .before .before .before .enum-told .given .1) in
     legal-lists l v none .circuit
 
--- src/lib.rt:393:9
 left-requires-3 : tie.Need-left-requires-3
 left-requires-3 c κs = search needs
 
--- src/lib.rt:393:9
 returns-3 : tie.Need-returns-3
 returns-3 c =
     let start = c .before .before .before .before .before .before .before .before .before .before .before .before .before in
@@ -110,7 +94,6 @@ returns-3 c =
     let free = sym (ap causeOf (c .before .before .before .enum-told2 .given .1)) ∙ c .before .before .before .before .before .check-coins .ensures in
     left-record l v cs s m none free _ (c .left3 .ensures .0) (c .left3 .ensures .1) (sym (c .before .before .fits2 .ensures) ∙ not-true (c .before .if1 .taken))
 
--- src/lib.rt:395:5
 step-open-requires : tie.Need-step-open-requires
 step-open-requires c κs =
     let start = c .before .before .before .before .before .before .before .before .before .before .before .before in
@@ -124,7 +107,6 @@ step-open-requires c κs =
     let free = sym (ap causeOf (c .before .before .enum-told2 .given .1)) ∙ c .before .before .before .before .check-coins .ensures in
     fitting l v cs s m none free (sym (c .before .fits2 .ensures) ∙ not-false (c .if1 .left))
 
--- src/lib.rt:375:1
 returns-4 : tie.Need-returns-4
 returns-4 c =
     let start = c .before .before .before .before .before .before .before .before .before .before .before .before .before in

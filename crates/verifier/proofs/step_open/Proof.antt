@@ -1,5 +1,7 @@
+-- `step_open` meets its contract: the coins before the round and the judgement are those of the definition.
+-- Assumes nothing.
 use Prim.Native.Nat.{ℕ, _+_}
-use mathlib.Core.Path.{_≡_, refl, sym, ap, _∙_}
+use mathlib.Core.Path.{refl, sym, ap, _∙_}
 use native.Mathlib.Omega.{arith}
 use lib.ListN.{getD}
 use lib.Seq.{length-take-le}
@@ -12,24 +14,13 @@ use Rattle.verifier.proofs.Coming.{coins-few, coin-inside, at-round, re
 use borrow.Author.Needs.{needs}
 use Rattle.verifier.proofs.step_open.Statement.{statement}
 use Rattle.verifier.proofs.step_open.Tie as tie
-use Rattle.verifier.proofs.step_open.Reads as reads
-use Rattle.verifier.proofs.step_open.Lts as lts
-use Rattle.field.proofs.Field.of.Reads as of-reads
-use Rattle.polynomial.proofs.value_at.Reads as value-at-reads
-use Rattle.verifier.proofs.coins_before.Reads as coins-before-reads
-use Rattle.verifier.proofs.ended.Reads as ended-reads
-use Rattle.verifier.proofs.go_on.Reads as go-on-reads
-use Rattle.verifier.proofs.judge.Reads as judge-reads
 
--- src/lib.rt:359:17
 cast-layer : tie.Need-cast-layer
 cast-layer c = search needs
 
--- src/lib.rt:360:17
 cast-round : tie.Need-cast-round
 cast-round c = search needs
 
--- src/lib.rt:361:13
 coins-before-requires : tie.Need-coins-before-requires
 coins-before-requires c κs =
     let start = c .before .before .before .before .before .before in
@@ -42,7 +33,6 @@ coins-before-requires c κs =
     let inside = o .inside in
     (legal l v cs s (start .pre), o .low, omega arith)
 
--- src/lib.rt:361:13
 add-n : tie.Need-add-n
 add-n c =
     let start = c .before .before .before .before .before .before .before in
@@ -57,7 +47,6 @@ add-n c =
     let few = coins-few l v cs s (start .pre) n en in
     omega arith
 
--- src/lib.rt:362:47
 slice-aggregate-judge : tie.Need-slice-aggregate-judge
 slice-aggregate-judge c =
     let start = c .before .before .before .before .before .before .before .before in
@@ -72,7 +61,6 @@ slice-aggregate-judge c =
     let inside = coin-inside l v cs s (start .pre) n en in
     sym (length-take-le n cs (omega arith))
 
--- src/lib.rt:362:9
 judge-requires : tie.Need-judge-requires
 judge-requires c κs =
     let start = c .before .before .before .before .before .before .before .before in
@@ -86,15 +74,12 @@ judge-requires c κs =
     let en = ap (λ (i : ℕ). i + s .round) (before .ensures) in
     at-round l v cs s (start .pre) n en
 
--- src/lib.rt:363:29
 enum-known-judged : tie.Need-enum-known-judged
 enum-known-judged c = search needs
 
--- src/lib.rt:366:22
 ended-requires : tie.Need-ended-requires
 ended-requires c κs = search needs
 
--- src/lib.rt:364:9
 returns : tie.Need-returns
 returns c =
     let start = c .before .before .before .before .before .before .before .before .before .before .before .before .before in
@@ -112,7 +97,6 @@ returns c =
 enum-told : tie.Need-enum-told
 enum-told c = search needs
 
--- src/lib.rt:369:16
 mul-coin : tie.Need-mul-coin
 mul-coin c =
     let start = c .before .before .before .before .before .before .before .before .before .before .before in
@@ -127,7 +111,6 @@ mul-coin c =
     let few = coins-few l v cs s (start .pre) n en in
     omega arith
 
--- src/lib.rt:369:16
 shared-slice-read-coin : tie.Need-shared-slice-read-coin
 shared-slice-read-coin c =
     let start = c .before .before .before .before .before .before .before .before .before .before .before .before in
@@ -142,7 +125,6 @@ shared-slice-read-coin c =
     let inside = coin-inside l v cs s (start .pre) n en in
     omega arith
 
--- src/lib.rt:370:48
 shared-slice-read-of : tie.Need-shared-slice-read-of
 shared-slice-read-of c =
     let start = c .before .before .before .before .before .before .before .before .before .before .before .before .before in
@@ -157,19 +139,15 @@ shared-slice-read-of c =
     let big = long l v cs s (start .pre) in
     omega arith
 
--- src/lib.rt:370:38
 of-requires : tie.Need-of-requires
 of-requires c κs = search needs
 
--- src/lib.rt:370:9
 value-at-requires : tie.Need-value-at-requires
 value-at-requires c κs = search needs
 
--- src/lib.rt:371:5
 go-on-requires : tie.Need-go-on-requires
 go-on-requires c κs = search needs
 
--- src/lib.rt:349:1
 returns-2 : tie.Need-returns-2
 returns-2 c =
     let start = c .before .before .before .before .before .before .before .before .before .before .before .before .before .before .before .before in
