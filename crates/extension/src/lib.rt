@@ -5,6 +5,9 @@ ghost use mathlib.Core.Path.{_≡_};
 ghost use Rattle.field.specs.Modulus.{numbers};
 ghost use Rattle.multilinear.specs.Extension.{weight, between, halving};
 
+// The coordinates of a point of the widest layer.
+pub const MAX_COORDINATES: usize = 8;
+
 // (1 - z) × low + z × high
 pub fn between(f: Field, z: u32, low: u32, high: u32) -> u32
     ensures { λ r. ⌜ r ≡ between (numbers f) z low high ⌝ }

@@ -1,4 +1,5 @@
 // The summand of a layer and the line between the two points of a claim, modulo a field's modulus. All of it is right for any words.
+use extension::MAX_COORDINATES;
 use field::Field;
 ghost use mathlib.Core.Path.{_≡_};
 ghost use mathlib.Core.Bool.{cond};
@@ -10,9 +11,6 @@ ghost use Rattle.circuit.specs.Limits.{maxExponent};
 ghost use Rattle.circuit.specs.Gate.{gate};
 ghost use Rattle.sumcheck.specs.Summand.{wiring, combined, linePoint};
 ghost use Rattle.summand.specs.Gates.{gatesIn, gateWeight};
-
-// The coordinates of a point of the widest layer.
-pub const MAX_COORDINATES: usize = 8;
 
 // The point of the line from the first row to the second, at t: u + t × (v - u), coordinate by coordinate.
 pub fn line_point(f: Field, points: [[u32; MAX_COORDINATES]; 2], t: u32) -> [u32; MAX_COORDINATES]

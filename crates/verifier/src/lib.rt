@@ -1,8 +1,8 @@
 // A session: an argued output is checked message by message.
+use extension::MAX_COORDINATES;
 use field::Field;
 use refusal::Cause;
 use refusal::Checked;
-use summand::MAX_COORDINATES;
 ghost use mathlib.Core.Path.{_≡_};
 ghost use Prim.Native.Nat.{_+_, _*_, _≤_};
 ghost use lib.ListN.{length};
