@@ -3,10 +3,10 @@
 use Prim.Native.Nat.{ℕ, _+_}
 use mathlib.Core.Path.{sym, ap, _∙_}
 use Rattle.protocol.specs.Rounds.{place}
-use Rattle.verifier.proofs.Judging.{length-of-line, length-of-sum}
+use Rattle.standing.proofs.Lengths.{length-of-line, length-of-sum}
 use borrow.Author.Needs.{needs}
-use Rattle.verifier.proofs.message_length.Statement.{statement}
-use Rattle.verifier.proofs.message_length.Tie as tie
+use Rattle.standing.proofs.message_length.Statement.{statement}
+use Rattle.standing.proofs.message_length.Tie as tie
 
 is-line-requires : tie.Need-is-line-requires
 is-line-requires c κs = search needs

@@ -4,8 +4,8 @@ use Prim.Native.Nat.{ℕ, _*_}
 use mathlib.Core.Path.{ap}
 use lib.Dec.{eqb}
 use borrow.Author.Needs.{needs}
-use Rattle.verifier.proofs.is_line.Statement.{statement}
-use Rattle.verifier.proofs.is_line.Tie as tie
+use Rattle.standing.proofs.is_line.Statement.{statement}
+use Rattle.standing.proofs.is_line.Tie as tie
 
 exponent-requires : tie.Need-exponent-requires
 exponent-requires c κs = search needs

@@ -1,24 +1,28 @@
 -- The points that the check reads off the coins.
 -- Assumes nothing.
-use Prim.Native.Nat.{ℕ, zero, suc, _+_, _-_, _*_, _≤_}
+use Prim.Native.Nat.{ℕ, zero, suc, _+_, _-_, _*_, _≤_, _<_}
 use mathlib.Core.Path.{_≡_, refl, sym, ap, ap₂, _∙_, subst}
+use mathlib.Core.Bool.{Bool, cond}
 use mathlib.Core.List.{List}
+use native.Mathlib.Decide.{decLt}
 use native.Mathlib.Omega.{arith}
-use lib.ListN.{length, length-drop, length-take, take, drop, getD}
+use lib.Dec.{ltb}
+use lib.ListN.{length, length-drop, length-take, take, drop, getD, drop-of-length-le}
 use lib.Seq.{take-all, drop-drop, getD-drop, length-take-le}
+use borrow.Author.Tests.{lt-ltb, le-ltb}
 use Rattle.algebra.specs.Numbers.{words}
 use Rattle.circuit.specs.Limits.{maxExponent}
 use Rattle.circuit.specs.Circuit.{primeOf, depth, exponentAt}
 use Rattle.circuit.specs.Sized.{LayerOf}
-use Rattle.circuit.proofs.Sized.{length-exponents}
+use Rattle.circuit.proofs.Sized.{deep}
 use Rattle.sumcheck.specs.Summand.{linePoint}
 use Rattle.sumcheck.proofs.Words.{line-point-length}
 use Rattle.summand.proofs.Line.{length-line, take-line}
 use Rattle.protocol.specs.Rounds.{layerStart}
 use Rattle.protocol.specs.Judge.{lineEnd, pointAt}
 use Rattle.protocol.proofs.Points.{start-next}
-use Rattle.verifier.specs.Standing.{AtLayer, Row}
-use Rattle.verifier.proofs.Gates.{exponent-small}
+use Rattle.standing.specs.Standing.{AtLayer, Row}
+use Rattle.standing.proofs.Gates.{exponent-small}
 
 -- the layer above, a layer of the circuit
 pub layer-above : (c : List ℕ) (layer : ℕ) (past : List ℕ) → AtLayer c layer past → LayerOf c (layer - 1)
@@ -31,7 +35,7 @@ module _ (c : List ℕ) (l : ℕ) (past : List ℕ) (h : AtLayer c (suc (suc l))
   above-coins : length past ≡ layerStart c (suc l) + 2 * exponentAt c (suc l) + 1
   above-coins =
       let low : suc (suc l) ≤ 1 + depth c = h .last in
-      h .counted ∙ start-next c l (omega (arith, length-exponents c (depth c) (h .legal .sized .headed)))
+      h .counted ∙ start-next c l (omega (arith, deep c (h .legal)))
 
   -- the layer's 2k + 1 coins are all that is left, and the point has k coordinates
   own-coins : length (drop (layerStart c (suc l)) past) ≡ 2 * exponentAt c (suc l) + 1
@@ -83,41 +87,89 @@ module _ (c : List ℕ) (l : ℕ) (past : List ℕ) (h : AtLayer c (suc (suc l))
             ∙ ap (linePoint N (take K cs) (take K (drop K cs))) et ∙ sym point;
       }
 
+-- a row that the coordinates fit
+pub row-whole : (l r : List ℕ) → length l ≤ maxExponent → Row (take maxExponent l) r → Row l r
+row-whole l r h row = subst (λ (m : List ℕ). Row m r) (take-all maxExponent l h) row
+
 -- the same, of a layer that is not the first
 module _ (c : List ℕ) (past : List ℕ) where
-  standing-coins : (layer : ℕ) → AtLayer c layer past → ¬ (layer ≡ 1) → length past ≡ layerStart c (layer - 1) + 2 * exponentAt c (layer - 1) + 1
+  standing-coins : (layer : ℕ) → AtLayer c layer past → 2 ≤ layer → length past ≡ layerStart c (layer - 1) + 2 * exponentAt c (layer - 1) + 1
   standing-coins zero h ne = absurd (let low : 1 ≤ 0 = h .first in omega arith)
-  standing-coins (suc zero) h ne = absurd (ne refl)
+  standing-coins (suc zero) h ne = absurd (omega arith)
   standing-coins (suc (suc l)) h ne =
       let e : suc (suc l) - 1 ≡ suc l = omega arith in
       above-coins c l past h ∙ ap (λ (i : ℕ). layerStart c i + 2 * exponentAt c i + 1) (sym e)
 
-  pub standing-row : (layer k u v t : ℕ) (first second r : List ℕ) → AtLayer c layer past → ¬ (layer ≡ 1)
+  pub record Sizes (k : ℕ) : Type 0 where
+    pub enough : 2 * k + 1 ≤ length past
+    pub small : k ≤ maxExponent
+
+  pub standing-sizes : (layer k : ℕ) → AtLayer c layer past → 2 ≤ layer → k ≡ exponentAt c (layer - 1) → Sizes k
+  standing-sizes layer k h ne ek =
+      let low = exponent-small c (layer - 1) (layer-above c layer past h) in
+      record { enough = omega (arith, ek, standing-coins layer h ne); small = omega (arith, ek, low) }
+
+  short : (n : ℕ) (l : List ℕ) → n ≤ maxExponent → length (take n l) ≤ maxExponent
+  short n l h = omega (arith, length-take n l)
+
+  pub standing-row : (layer k u v t : ℕ) (first second r : List ℕ) → AtLayer c layer past → 2 ≤ layer
       → k ≡ exponentAt c (layer - 1) → t ≡ length past - 1 → v ≡ t - k → u ≡ v - k
-      → Row (take (v - u) (drop u past)) first → Row (take (t - v) (drop v past)) second
+      → Row (take maxExponent (take (v - u) (drop u past))) first → Row (take maxExponent (take (t - v) (drop v past))) second
       → r ≡ linePoint (words (primeOf c)) first second (getD past t 0) → Row (pointAt c layer past) r
-  standing-row zero k u v t first second r h ne ek = absurd (let low : 1 ≤ 0 = h .first in omega arith)
-  standing-row (suc zero) k u v t first second r h ne ek = absurd (ne refl)
-  standing-row (suc (suc l)) k u v t first second r h ne ek =
+  standing-row zero k u v t first second r h ne ek et ev eu row₁ row₂ = absurd (let low : 1 ≤ 0 = h .first in omega arith)
+  standing-row (suc zero) k u v t first second r h ne ek et ev eu row₁ row₂ = absurd (omega arith)
+  standing-row (suc (suc l)) k u v t first second r h ne ek et ev eu row₁ row₂ =
       let e : suc (suc l) - 1 ≡ suc l = omega arith in
-      line-row c l past h k u v t first second r (ek ∙ ap (exponentAt c) e)
+      let small = standing-sizes (suc (suc l)) k h ne ek .small in
+      line-row c l past h k u v t first second r (ek ∙ ap (exponentAt c) e) et ev eu
+      (row-whole (take (v - u) (drop u past)) first (short (v - u) (drop u past) (omega arith)) row₁)
+      (row-whole (take (t - v) (drop v past)) second (short (t - v) (drop v past) (omega arith)) row₂)
 
   pub point-length : (layer : ℕ) → AtLayer c layer past → length (pointAt c layer past) ≡ exponentAt c (layer - 1)
   point-length zero h = absurd (let low : 1 ≤ 0 = h .first in omega arith)
   point-length (suc zero) h = let e : suc zero - 1 ≡ 0 = omega arith in rw e refl
   point-length (suc (suc l)) h = let e : suc (suc l) - 1 ≡ suc l = omega arith in above-length c l past h ∙ ap (exponentAt c) (sym e)
 
-  pub first-row : (layer : ℕ) (r : List ℕ) → layer ≡ 1 → length r ≡ maxExponent → Row (pointAt c layer past) r
-  first-row layer r e n = subst (λ (i : ℕ). Row (pointAt c i past) r) (sym e) (record { size = n; holds = refl })
+  pub first-row : (layer : ℕ) (r : List ℕ) → AtLayer c layer past → layer < 2 → length r ≡ maxExponent → Row (pointAt c layer past) r
+  first-row layer r h low n =
+      let some : 1 ≤ layer = h .first in
+      let e : 1 ≡ layer = omega arith in
+      subst (λ (i : ℕ). Row (pointAt c i past) r) e (record { size = n; holds = refl })
 
-  pub record Sizes (k : ℕ) : Type 0 where
-    pub enough : 2 * k + 1 ≤ length past
-    pub small : k ≤ maxExponent
+-- the lesser of a list's length and k: as many words as its first k
+pub record Lesser (k : ℕ) (l : List ℕ) (r : ℕ) : Type 0 where
+  pub inside : r ≤ length l
+  pub small : r ≤ k
+  pub counted : r ≡ length (take k l)
+  pub front : take r l ≡ take k l
+  pub rest : drop r l ≡ drop k l
 
-  pub standing-sizes : (layer k : ℕ) → AtLayer c layer past → ¬ (layer ≡ 1) → k ≡ exponentAt c (layer - 1) → Sizes k
-  standing-sizes layer k h ne ek =
-      let low = exponent-small c (layer - 1) (layer-above c layer past h) in
-      record { enough = omega (arith, ek, standing-coins layer h ne); small = omega (arith, ek, low) }
+pub lesser-low : (a b r : ℕ) → r ≡ cond (ltb a b) a b → r ≤ a
+lesser-low a b r e = go (decLt a b)
+  where
+    go : Dec (a < b) → r ≤ a
+    go (yes h) = let s : r ≡ a = e ∙ ap (λ (x : Bool). cond x a b) (lt-ltb a b h) in omega arith
+    go (no h) = let s : r ≡ b = e ∙ ap (λ (x : Bool). cond x a b) (le-ltb a b (omega arith)) in omega arith
 
-pub take-short : (n m : ℕ) (l : List ℕ) → n ≤ m → length (take n l) ≤ m
-take-short n m l h = omega (arith, length-take n l)
+pub lesser-of : (k : ℕ) (l : List ℕ) (r : ℕ) → r ≡ cond (ltb (length l) k) (length l) k → Lesser k l r
+lesser-of k l r e = go (decLt (length l) k)
+  where
+    go : Dec (length l < k) → Lesser k l r
+    go (yes h) =
+        let s : r ≡ length l = e ∙ ap (λ (b : Bool). cond b (length l) k) (lt-ltb (length l) k h) in
+        record {
+          inside = omega arith;
+          small = omega arith;
+          counted = s ∙ ap length (sym (take-all k l (omega arith)));
+          front = take-all r l (omega arith) ∙ sym (take-all k l (omega arith));
+          rest = drop-of-length-le l {i = r} (omega arith) ∙ sym (drop-of-length-le l {i = k} (omega arith));
+        }
+    go (no h) =
+        let s : r ≡ k = e ∙ ap (λ (b : Bool). cond b (length l) k) (le-ltb (length l) k (omega arith)) in
+        record {
+          inside = omega arith;
+          small = omega arith;
+          counted = s ∙ sym (length-take-le k l (omega arith));
+          front = ap (λ (i : ℕ). take i l) s;
+          rest = ap (λ (i : ℕ). drop i l) s;
+        }

@@ -6,15 +6,28 @@ use mathlib.Core.List.{List, [], _∷_}
 use native.Mathlib.Nat.{not-suc-le-zero, le-of-suc-le-suc}
 use native.Mathlib.Numerals.{add-one}
 use native.Mathlib.Omega.{arith}
-use lib.ListN.{length, take, drop, getD}
-use lib.Seq.{drop-drop}
-use Rattle.circuit.specs.Limits.{maxDepth, maxExponent}
+use lib.ListN.{length, length-take, take, drop, getD, List·getD-eq-default}
+use lib.Seq.{drop-drop, getD-take, getD-drop}
+use Rattle.circuit.specs.Limits.{maxExponent}
 use Rattle.circuit.specs.Circuit.{depth, exponents, exponentAt, outputExponent, widthOf, gatesOf, layersOf, gateCount, gatesStart, gateLayers, gatesAt, wordCount}
 use Rattle.circuit.specs.Sized.{LayerOf, LegalCircuit}
-use Rattle.circuit.proofs.Sized.{length-exponents, width-of, width-small, layer-small, layer-word, count-small}
-use Rattle.verifier.specs.Standing.{gatesFrom}
+use Rattle.circuit.proofs.Sized.{deep, width-of, layer-small, layer-word}
+use Rattle.standing.specs.Standing.{gatesFrom}
 
--- a layer's exponent is at most 8
+-- a layer's exponent is a word of the list, where there is such a layer
+pub exponent-there : (c : List ℕ) (layer : ℕ) → ¬ (layer ≡ 0) → layer ≤ depth c → getD c (1 + layer) 0 ≡ exponentAt c layer
+unfolding exponents
+exponent-there c zero ne h = absurd (ne refl)
+exponent-there c (suc l) ne h =
+    let e : 1 + suc l ≡ 2 + l = omega arith in
+    ap (λ (i : ℕ). getD c i 0) e ∙ sym (getD-take (depth c) (drop 2 c) l 0 h ∙ getD-drop 2 c l 0)
+
+pub exponent-past : (c : List ℕ) (layer : ℕ) → depth c < layer → 0 ≡ exponentAt c layer
+unfolding exponents
+exponent-past c zero h = refl
+exponent-past c (suc l) h = sym (List·getD-eq-default (take (depth c) (drop 2 c)) 0 (omega (arith, length-take (depth c) (drop 2 c))))
+
+-- at most 8
 pub exponent-small : (c : List ℕ) (layer : ℕ) → LayerOf c layer → exponentAt c layer ≤ maxExponent
 exponent-small c zero h = omega arith
 exponent-small c (suc l) h =
@@ -48,13 +61,10 @@ layer-of k (k′ ∷ ks) ws (suc l) h =
     ∙ ap (gatesOf (2 ^ getD (k′ ∷ ks) l 0)) (drop-drop (3 * n) (3 * 2 ^ k) ws ∙ ap (λ (i : ℕ). drop i ws) e)
 
 module _ (c : List ℕ) (h : LegalCircuit c) where
-  deep : length (exponents c) ≡ depth c
-  deep = length-exponents c (depth c) (h .sized .headed)
-
   pub gates-at : (l : ℕ) → l < depth c → gatesOf (2 ^ exponentAt c l) (drop (gatesFrom c l) c) ≡ gatesAt c l
   unfolding gatesAt gateLayers gatesFrom
   gates-at l n =
-      sym (layer-of outputExponent (exponents c) (drop (gatesStart c) c) l (omega (arith, deep))
+      sym (layer-of outputExponent (exponents c) (drop (gatesStart c) c) l (omega (arith, deep c h))
       ∙ ap (gatesOf (2 ^ exponentAt c l)) (drop-drop (3 * gateCount outputExponent (take l (exponents c))) (gatesStart c) c))
 
   -- they are inside the list
@@ -63,7 +73,7 @@ module _ (c : List ℕ) (h : LegalCircuit c) where
   gates-room l n =
       let whole : length c ≡ wordCount c = h .sized .counted in
       let part = count-part outputExponent (exponents c) (suc l) in
-      omega (arith, whole, part, count-more outputExponent (exponents c) l (omega (arith, deep)))
+      omega (arith, whole, part, count-more outputExponent (exponents c) l (omega (arith, deep c h)))
 
   -- the count so far, in a loop over the layers
   pub count-turn : (i count k w : ℕ) → i < depth c → count ≡ gateCount outputExponent (take i (exponents c)) → k ≡ exponentAt c i → w ≡ widthOf k
@@ -71,30 +81,13 @@ module _ (c : List ℕ) (h : LegalCircuit c) where
   count-turn i count k w n e ek ew =
       let wide : w ≡ 2 ^ exponentAt c i = ew ∙ ap widthOf ek ∙ exponent-width c i (record { headed = h .sized .headed; inside = omega arith }) in
       let next : gateCount outputExponent (take (i + 1) (exponents c)) ≡ gateCount outputExponent (take i (exponents c)) + 2 ^ exponentAt c i =
-      ap (λ (j : ℕ). gateCount outputExponent (take j (exponents c))) (add-one i) ∙ count-more outputExponent (exponents c) i (omega (arith, deep)) in
+      ap (λ (j : ℕ). gateCount outputExponent (take j (exponents c))) (add-one i) ∙ count-more outputExponent (exponents c) i (omega (arith, deep c h)) in
       omega (arith, wide, next, e)
 
-  pub count-so-far : (i count : ℕ) → count ≡ gateCount outputExponent (take i (exponents c)) → count ≤ 256 * maxDepth
-  count-so-far i count e = omega (arith, e, count-part outputExponent (exponents c) i, count-small c (depth c) (h .sized .headed))
-
-  -- the part of the list that a layer's gates take
-  pub record Part (from w : ℕ) : Type 0 where
-    pub inside : from + 3 * w ≤ length c
-    pub small : from + 3 * w ≤ 65536
-
-  few-before : (i : ℕ) → gatesFrom c i ≤ 60000
+  -- one layer's gates end where the next layer's start
+  pub gates-next : (l : ℕ) → l < depth c → gatesFrom c (suc l) ≡ gatesFrom c l + 3 * 2 ^ exponentAt c l
   unfolding gatesFrom
-  few-before i = omega (arith, count-part outputExponent (exponents c) i, count-small c (depth c) (h .sized .headed), h .sized .headed .shallow)
-
-  pub gates-part-of : (l from k w : ℕ) → l < depth c → from ≡ gatesFrom c l → k ≡ exponentAt c l → w ≡ widthOf k → Part from w
-  gates-part-of l from k w n ef ek ew =
-      let wide : w ≡ 2 ^ exponentAt c l = ew ∙ ap widthOf ek ∙ exponent-width c l (record { headed = h .sized .headed; inside = omega arith }) in
-      let few : gatesFrom c l ≤ 60000 = few-before l in
-      let small : w ≤ 256 = subst (λ (i : ℕ). i ≤ 256) (sym ew) (width-small k) in
-      record { inside = omega (arith, wide, ef, gates-room l n); small = omega arith }
-
-  pub shallow : depth c ≤ maxDepth
-  shallow = h .sized .headed .shallow
+  gates-next l n = let next = count-more outputExponent (exponents c) l (omega (arith, deep c h)) in omega arith
 
 pub count-none : (c : List ℕ) → 0 ≡ gateCount outputExponent (take 0 (exponents c))
 unfolding gateCount
