@@ -1,15 +1,12 @@
 -- The points that the check reads off the coins.
 -- Assumes nothing.
-use Prim.Native.Nat.{ℕ, zero, suc, _+_, _-_, _*_, _≤_, _<_}
+use Prim.Native.Nat.{ℕ, zero, suc, _+_, _-_, _*_, _≤_, _<_, min}
 use mathlib.Core.Path.{_≡_, refl, sym, ap, ap₂, _∙_, subst}
-use mathlib.Core.Bool.{Bool, cond}
 use mathlib.Core.List.{List}
 use native.Mathlib.Decide.{decLt}
 use native.Mathlib.Omega.{arith}
-use lib.Dec.{ltb}
 use lib.ListN.{length, length-drop, length-take, take, drop, getD, drop-of-length-le}
 use lib.Seq.{take-all, drop-drop, getD-drop, length-take-le}
-use borrow.Author.Tests.{lt-ltb, le-ltb}
 use Rattle.algebra.specs.Numbers.{words}
 use Rattle.circuit.specs.Limits.{maxExponent}
 use Rattle.circuit.specs.Circuit.{primeOf, depth, exponentAt}
@@ -137,26 +134,19 @@ module _ (c : List ℕ) (past : List ℕ) where
       subst (λ (i : ℕ). Row (pointAt c i past) r) e (record { size = n; holds = refl })
 
 -- the lesser of a list's length and k: as many words as its first k
-pub record Lesser (k : ℕ) (l : List ℕ) (r : ℕ) : Type 0 where
+pub record Least (k : ℕ) (l : List ℕ) (r : ℕ) : Type 0 where
   pub inside : r ≤ length l
   pub small : r ≤ k
   pub counted : r ≡ length (take k l)
   pub front : take r l ≡ take k l
   pub rest : drop r l ≡ drop k l
 
-pub lesser-low : (a b r : ℕ) → r ≡ cond (ltb a b) a b → r ≤ a
-lesser-low a b r e = go (decLt a b)
+pub least-of : (k : ℕ) (l : List ℕ) (r : ℕ) → r ≡ min (length l) k → Least k l r
+least-of k l r e = go (decLt (length l) k)
   where
-    go : Dec (a < b) → r ≤ a
-    go (yes h) = let s : r ≡ a = e ∙ ap (λ (x : Bool). cond x a b) (lt-ltb a b h) in omega arith
-    go (no h) = let s : r ≡ b = e ∙ ap (λ (x : Bool). cond x a b) (le-ltb a b (omega arith)) in omega arith
-
-pub lesser-of : (k : ℕ) (l : List ℕ) (r : ℕ) → r ≡ cond (ltb (length l) k) (length l) k → Lesser k l r
-lesser-of k l r e = go (decLt (length l) k)
-  where
-    go : Dec (length l < k) → Lesser k l r
+    go : Dec (length l < k) → Least k l r
     go (yes h) =
-        let s : r ≡ length l = e ∙ ap (λ (b : Bool). cond b (length l) k) (lt-ltb (length l) k h) in
+        let s : r ≡ length l = omega arith in
         record {
           inside = omega arith;
           small = omega arith;
@@ -165,7 +155,7 @@ lesser-of k l r e = go (decLt (length l) k)
           rest = drop-of-length-le l {i = r} (omega arith) ∙ sym (drop-of-length-le l {i = k} (omega arith));
         }
     go (no h) =
-        let s : r ≡ k = e ∙ ap (λ (b : Bool). cond b (length l) k) (le-ltb (length l) k (omega arith)) in
+        let s : r ≡ k = omega arith in
         record {
           inside = omega arith;
           small = omega arith;

@@ -1,11 +1,9 @@
 -- What stands at a round: the last coins, as many as the round says, are the layer's own, and those before them give the standing point.
 -- Assumes nothing.
-use Prim.Native.Nat.{ℕ, zero, suc, _+_, _-_, _*_, _/_, _^_, _≤_, _<_}
+use Prim.Native.Nat.{ℕ, zero, suc, _+_, _-_, _*_, _/_, _^_, _≤_, _<_, min}
 use mathlib.Core.Path.{_≡_, refl, sym, ap, ap₂, _∙_, subst}
-use mathlib.Core.Bool.{cond}
 use mathlib.Core.List.{List}
 use native.Mathlib.Omega.{arith}
-use lib.Dec.{ltb}
 use lib.ListN.{length, length-drop, length-take, take, drop, take-append-drop}
 use lib.Seq.{drop-drop, length-take-le}
 use Rattle.circuit.specs.Limits.{maxDepth, maxExponent}
@@ -20,7 +18,7 @@ use Rattle.protocol.proofs.Points.{point-more}
 use Rattle.standing.specs.Standing.{AtLayer, AtRound, Row, Stands, gatesFrom}
 use Rattle.standing.specs.declared.Stand.{Stand}
 use Rattle.standing.proofs.Gates.{exponent-small, gates-at, gates-next, gates-room}
-use Rattle.standing.proofs.Points.{lesser-of, row-whole}
+use Rattle.standing.proofs.Points.{least-of, row-whole, point-length}
 
 -- the gates of a part of the list
 gates-in : (c : List ℕ) → LegalCircuit c → (l from to : ℕ) → l < depth c → from ≡ gatesFrom c l → to ≡ gatesFrom c (suc l)
@@ -74,6 +72,9 @@ module _ (c : List ℕ) (layer round : ℕ) (past : List ℕ) (h : AtRound c lay
         counted = length-take-le start past (omega (arith, e, h .counted)) ∙ e;
       }
 
+  pub point-size : length (pointAt c layer past) ≡ exponentAt c (layer - 1)
+  point-size = ap length (sym same-point) ∙ point-length c (take (layerStart c layer) past) layer (at-layer (layerStart c layer) refl)
+
   gates-above : (l : ℕ) → l ≡ layer - 1 → gatesAt c l ≡ gatesAbove c layer
   gates-above l e = go layer (h .first) e
     where
@@ -81,7 +82,15 @@ module _ (c : List ℕ) (layer round : ℕ) (past : List ℕ) (h : AtRound c lay
       go zero low q = absurd (omega arith)
       go (suc i) low q = let same : l ≡ i = omega arith in ap (gatesAt c) same
 
-  module _ (s : Stand) (start first : ℕ) (es : start ≡ length past - round) (ef : first ≡ cond (ltb round (s .own)) round (s .own)) where
+  -- the rows' coordinates, and that they are there
+  module _ (s : Stand) (t : Stands c layer past s) where
+    pub above-fits : s .above ≤ length (s .point)
+    above-fits = let low = exponent-small c (layer - 1) above-layer in omega (arith, low, t .above, t .point .size)
+
+    pub above-point : take (s .above) (s .point) ≡ pointAt c layer past
+    above-point = ap (λ (n : ℕ). take n (s .point)) (t .above ∙ sym point-size) ∙ t .point .holds
+
+  module _ (s : Stand) (start first : ℕ) (es : start ≡ length past - round) (ef : first ≡ min round (s .own)) where
     pub stands : s .own ≡ exponentAt c layer → s .above ≡ exponentAt c (layer - 1) → s .from ≡ gatesFrom c (layer - 1) → s .to ≡ gatesFrom c layer
         → Row (take maxExponent (take (start + first - start) (drop start past))) (s .u) → Row (take maxExponent (drop (start + first) past)) (s .v)
         → (AtLayer c layer (take start past) → Row (pointAt c layer (take start past)) (s .point)) → Stands c layer past s
@@ -94,7 +103,7 @@ module _ (c : List ℕ) (layer round : ℕ) (past : List ℕ) (h : AtRound c lay
         let small : k ≤ maxExponent = own-small in
         let reached : round ≤ 2 * k = h .reached in
         let size : length xs ≡ round = own-coins in
-        let part = lesser-of (s .own) xs first (ef ∙ ap (λ (n : ℕ). cond (ltb n (s .own)) n (s .own)) (sym size)) in
+        let part = least-of (s .own) xs first (ef ∙ ap (λ (n : ℕ). min n (s .own)) (sym size)) in
         let cut : start + first - start ≡ first = omega arith in
         let eu : take (start + first - start) (drop start past) ≡ take k xs =
         ap₂ (λ (n i : ℕ). take n (drop i past)) cut at ∙ part .front ∙ ap (λ (n : ℕ). take n xs) ek in

@@ -7,8 +7,6 @@ use refusal::Cause;
 use refusal::Checked;
 ghost use mathlib.Core.Path.{_≡_};
 ghost use Prim.Native.Nat.{_+_, _-_, _*_, _≤_};
-ghost use mathlib.Core.Bool.{cond};
-ghost use lib.Dec.{ltb};
 ghost use lib.ListN.{take, getD};
 ghost use Rattle.refusal.specs.Number.{causeOf};
 ghost use Rattle.circuit.specs.Limits.{maxDepth, maxExponent};
@@ -27,16 +25,6 @@ fn word(list: &[u32], at: usize) -> u32
         return list[at];
     }
     0
-}
-
-// The lesser of two numbers.
-fn lesser(a: usize, b: usize) -> usize
-    ensures { λ r. ⌜ r ≡ cond (ltb a b) a b ⌝ }
-{
-    if a < b {
-        return a;
-    }
-    b
 }
 
 // The width exponent of a layer, 0 for one that the list has not.
@@ -123,7 +111,7 @@ fn row(coordinates: &[u32]) -> [u32; MAX_COORDINATES]
     ensures { λ r. ⌜ Row (take maxExponent (now (coordinates .entry))) r ⌝ }
 {
     let mut row = [0u32; MAX_COORDINATES];
-    for i in 0..lesser(coordinates.len(), MAX_COORDINATES) {
+    for i in 0..lists::least(coordinates.len(), MAX_COORDINATES) {
         row[i] = coordinates[i];
     }
     row
@@ -201,7 +189,7 @@ pub fn at_round(circuit: &[u32], layer: usize, round: usize, past: &[u32]) -> St
     }
     let own = exponent(circuit, layer) as usize;
     let start = past.len() - round;
-    let middle = start + lesser(round, own);
+    let middle = start + lists::least(round, own);
     Stand {
         above: exponent(circuit, layer - 1) as usize,
         own,

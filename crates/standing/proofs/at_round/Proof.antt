@@ -10,7 +10,6 @@ use mathlib.Core.Path.{refl, sym, subst}
 use native.Mathlib.Omega.{arith}
 use lib.Seq.{length-take-le}
 use Rattle.standing.proofs.Rounds.{low-layer, above-layer, stands}
-use Rattle.standing.proofs.Points.{lesser-low}
 use borrow.Author.Needs.{needs}
 use Rattle.standing.proofs.at_round.Statement.{statement}
 use Rattle.standing.proofs.at_round.Tie as tie
@@ -45,11 +44,11 @@ cast-own c = search needs
 sub-start : tie.Need-sub-start
 sub-start c = search needs
 
-lesser-requires : tie.Need-lesser-requires
-lesser-requires c κs = search needs
+least-requires : tie.Need-least-requires
+least-requires c κs = search needs
 
 add-middle : tie.Need-add-middle
-add-middle c = let low = lesser-low (c .before .before .before .before .before .before .before .args .round) (c .before .exponent .result) (c .lesser .result) (c .lesser .ensures) in omega (arith, low)
+add-middle c = omega arith
 
 exponent-requires-2 : tie.Need-exponent-requires-2
 exponent-requires-2 c κs = search needs
@@ -79,19 +78,19 @@ part-row-start : tie.Need-part-row-start
 part-row-start c = search needs
 
 part-row-end : tie.Need-part-row-end
-part-row-end c = let low = lesser-low (c .before .before .before .before .before .before .before .before .before .before .before .before .args .round) (c .before .before .before .before .before .before .exponent .result) (c .before .before .before .before .before .lesser .result) (c .before .before .before .before .before .lesser .ensures) in omega (arith, low)
+part-row-end c = omega arith
 
 row-requires : tie.Need-row-requires
 row-requires c κs = search needs
 
 mul-row-2 : tie.Need-mul-row-2
-mul-row-2 c = let low = lesser-low (c .before .before .before .before .before .before .before .before .before .before .before .before .before .before .args .round) (c .before .before .before .before .before .before .before .before .exponent .result) (c .before .before .before .before .before .before .before .lesser .result) (c .before .before .before .before .before .before .before .lesser .ensures) in omega (arith, low)
+mul-row-2 c = omega arith
 
 sub-row-2 : tie.Need-sub-row-2
-sub-row-2 c = let low = lesser-low (c .before .before .before .before .before .before .before .before .before .before .before .before .before .before .args .round) (c .before .before .before .before .before .before .before .before .exponent .result) (c .before .before .before .before .before .before .before .lesser .result) (c .before .before .before .before .before .before .before .lesser .ensures) in omega (arith, low)
+sub-row-2 c = omega arith
 
 part-row-start-2 : tie.Need-part-row-start-2
-part-row-start-2 c = let low = lesser-low (c .before .before .before .before .before .before .before .before .before .before .before .before .before .before .args .round) (c .before .before .before .before .before .before .before .before .exponent .result) (c .before .before .before .before .before .before .before .lesser .result) (c .before .before .before .before .before .before .before .lesser .ensures) in omega (arith, low)
+part-row-start-2 c = omega arith
 
 part-row-end-2 : tie.Need-part-row-end-2
 part-row-end-2 c = search needs
@@ -105,12 +104,12 @@ returns-4 c h =
     let start = own .before .before .before .before .before .before .before in
     let l = start .args .circuit .now in
     let past = start .args .past .now in
-    stands l (start .args .layer) (start .args .round) past h _ (length past - start .args .round) (own .lesser .result) refl (own .lesser .ensures)
+    stands l (start .args .layer) (start .args .round) past h _ (length past - start .args .round) (own .least .result) refl (own .least .ensures)
     (own .before .exponent .ensures) (c .before .before .before .before .before .before .before .before .exponent2 .ensures)
     (c .before .before .before .before .before .before .before .gates-from .ensures (h .legal) (above-layer l (start .args .layer) (start .args .round) past h .inside))
     (c .before .before .before .before .before .before .gates-from2 .ensures (h .legal) (h .last))
     (c .before .before .row .ensures)
-    (subst (λ (m : List ℕ). Row (take maxExponent m) (c .row2 .result)) (rest-lent past (length past - start .args .round + own .lesser .result) (length past) refl) (c .row2 .ensures))
+    (subst (λ (m : List ℕ). Row (take maxExponent m) (c .row2 .result)) (rest-lent past (length past - start .args .round + own .least .result) (length past) refl) (c .row2 .ensures))
     (c .before .before .before .before .standing-point .ensures)
 
 pub at-round-spec : {M : Type 1} → statement M
@@ -127,7 +126,7 @@ at-round-spec =
     exponent-requires
     cast-own
     sub-start
-    lesser-requires
+    least-requires
     add-middle
     exponent-requires-2
     cast-t11

@@ -10,22 +10,22 @@ use lib.Seq.{getD-take}
 use Rattle.lists.specs.Buffer.{over}
 use Rattle.lists.proofs.Buffer.{over-next, over-all, take-over}
 use Rattle.circuit.specs.Limits.{maxExponent}
-use Rattle.standing.proofs.Points.{Lesser, lesser-of}
+use Rattle.standing.proofs.Points.{Least, least-of}
 use Rattle.standing.proofs.row.Statement.{statement}
 use Rattle.standing.proofs.row.Tie as tie
 
 abbrev Inv-loop : tie.InvT-loop
 Inv-loop coordinates row₀ i₀ i-end row i =
-    (i ≤ i-end) × Lesser maxExponent coordinates i-end × (length row ≡ maxExponent) × (row ≡ over (take i (take maxExponent coordinates)) row₀)
+    (i ≤ i-end) × Least maxExponent coordinates i-end × (length row ≡ maxExponent) × (row ≡ over (take i (take maxExponent coordinates)) row₀)
 
 abbrev μ-loop : tie.MeasureT-loop
 μ-loop coordinates row₀ i₀ i-end row i = i-end - i
 
-lesser-requires : tie.Need-lesser-requires Inv-loop μ-loop
-lesser-requires c κs = search needs
+least-requires : tie.Need-least-requires Inv-loop μ-loop
+least-requires c κs = search needs
 
 loop-holds : tie.Need-loop-holds Inv-loop μ-loop
-loop-holds c = (search needs, lesser-of maxExponent (c .before .before .args .coordinates .now) (c .lesser .result) (c .lesser .ensures), search needs, search needs)
+loop-holds c = (search needs, least-of maxExponent (c .before .before .args .coordinates .now) (c .least .result) (c .least .ensures), search needs, search needs)
 
 mul-row : tie.Need-mul-row Inv-loop μ-loop
 mul-row c = let own = c .before .loop .inv .1 in omega (arith, own .inside, own .small, c .loop-test .taken)
@@ -51,7 +51,7 @@ loop-again c =
     let l = at .before .before .before .args .coordinates .now in
     let i = at .loop .i in
     let own = at .loop .inv .1 in
-    let n : length (take maxExponent l) ≡ at .before .lesser .result = sym (own .counted) in (
+    let n : length (take maxExponent l) ≡ at .before .least .result = sym (own .counted) in (
       search needs,
       own,
       length-set (at .loop .row) i (getD l i 0) ∙ at .loop .inv .2,
@@ -76,7 +76,7 @@ row-spec =
     (tie.spec
     Inv-loop
     μ-loop
-    lesser-requires
+    least-requires
     loop-holds
     mul-row
     shared-slice-read-row

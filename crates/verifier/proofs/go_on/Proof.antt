@@ -3,7 +3,7 @@
 use mathlib.Core.Path.{refl, sym, _∙_}
 use native.Mathlib.Omega.{arith}
 use Rattle.circuit.proofs.Loading.{not-true, not-false}
-use Rattle.verifier.proofs.Records.{own-layer, long, small-round, small-layer, goes-round, goes-layer, goes-accepted, goes-refused}
+use Rattle.verifier.proofs.Records.{long, small-round, small-layer, goes-round, goes-layer, goes-accepted, goes-refused}
 use borrow.Author.Needs.{needs}
 use Rattle.verifier.proofs.go_on.Statement.{statement}
 use Rattle.verifier.proofs.go_on.Tie as tie
@@ -15,14 +15,7 @@ cast-is-line-2 : tie.Need-cast-is-line-2
 cast-is-line-2 c = search needs
 
 is-line-requires : tie.Need-is-line-requires
-is-line-requires c κs =
-    let start = c .before .before .before .before .before in
-    let a = start .args in
-    let l = a .circuit .now in
-    let v = a .input .now in
-    let cs = a .coins .now in
-    let s = a .session in
-    own-layer l v cs s (start .pre)
+is-line-requires c κs = search needs
 
 add-t13 : tie.Need-add-t13
 add-t13 c =
