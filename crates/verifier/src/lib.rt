@@ -259,9 +259,10 @@ fn go_on(
     ensures { λ r. ⌜ GoesOn (now (circuit .entry)) (now (input .entry)) (now (coins .entry)) session coin claim r ⌝ }
 {
     if !standing::is_line(circuit, session.layer as usize, session.round as usize) {
+        let round = session.round + 1;
         let next = Session {
             layer: session.layer,
-            round: session.round + 1,
+            round,
             claim,
             open: true,
         };
@@ -271,8 +272,9 @@ fn go_on(
         };
     }
     if session.layer < circuit[1] {
+        let layer = session.layer + 1;
         let next = Session {
-            layer: session.layer + 1,
+            layer,
             round: 0,
             claim,
             open: true,
@@ -282,15 +284,16 @@ fn go_on(
             session: next,
         };
     }
+    let closed = ended(session);
     if input_agrees(circuit, input, coins, claim) {
         return Stepped {
             verdict: Verdict::Accepted,
-            session: ended(session),
+            session: closed,
         };
     }
     Stepped {
         verdict: Verdict::Refused(Cause::InputDiffers),
-        session: ended(session),
+        session: closed,
     }
 }
 
