@@ -34,6 +34,22 @@ use Rattle.sumcheck.proofs.Hom.{hom-lineMessage}
 use Rattle.sumcheck.proofs.Message.{length-line, line-value}
 use Rattle.sumcheck.proofs.Words.{line-message-words}
 
+-- STEP BY STEP
+module _ {C : Type 0} (N : Numbers C) where
+  pub line-none : (vs u v : List C) → length u ≡ 0 → lineHalving N vs u v ≡ getD vs 0 (N .𝟘) ∷ []
+  unfolding lineHalving
+  line-none vs [] v e = refl
+  line-none vs (x ∷ u) v e = absurd (omega arith)
+
+  pub line-step : (vs u v : List C) (d : C) → 0 < length u → 0 < length v
+      → lineHalving N vs u v
+      ≡ along N (getD u 0 d) (N .sub (getD v 0 d) (getD u 0 d)) (N .𝟘)
+      (lineHalving N (take (length vs / 2) vs) (drop 1 u) (drop 1 v)) (lineHalving N (drop (length vs / 2) vs) (drop 1 u) (drop 1 v))
+  unfolding lineHalving
+  line-step vs [] v d h h′ = absurd (omega arith)
+  line-step vs (x ∷ u) [] d h h′ = absurd (omega arith)
+  line-step vs (x ∷ u) (y ∷ v) d h h′ = refl
+
 -- LENGTHS
 module _ {C : Type 0} (N : Numbers C) where
   pub length-along : (n : ℕ) (x d carry : C) (low high : List C) → length low ≡ n → length high ≡ n
