@@ -5,80 +5,70 @@ use field::Field;
 ghost use Prim.Native.Nat.{_≤_, _<_};
 ghost use mathlib.Core.Path.{_≡_};
 ghost use mathlib.Core.Bool.{cond};
-ghost use mathlib.Core.List.{[], _∷_};
+ghost use mathlib.Core.List.{[]};
 ghost use lib.Dec.{ltb};
 ghost use lib.ListN.{length, take, getD};
+ghost use Rattle.lists.specs.Buffer.{over};
 ghost use Rattle.field.specs.Modulus.{numbers};
 ghost use Rattle.circuit.specs.Limits.{maxExponent};
 ghost use Rattle.sumcheck.specs.Line.{along, lineHalving};
-ghost use Rattle.line.specs.Row.{maxCoefficients, padded};
+ghost use Rattle.line.specs.Row.{padded};
 
 // The coefficients of a line along the widest layer.
 pub const MAX_COEFFICIENTS: usize = 9;
 
-// With no coordinate there is one coefficient, the first value.
-fn constant(values: &[u32]) -> [u32; MAX_COEFFICIENTS]
-    ensures { λ r. ⌜ r ≡ padded (getD (now (values .entry)) 0 0 ∷ []) ⌝ }
+// The one coefficient of a line with no coordinate: the first value.
+fn first(values: &[u32]) -> u32
+    ensures { λ r. ⌜ r ≡ getD (now (values .entry)) 0 0 ⌝ }
 {
-    let mut row = [0u32; MAX_COEFFICIENTS];
-    if 0 < values.len() {
-        row[0] = values[0];
+    if values.len() == 0 {
+        return Field::ZERO;
     }
-    row
+    values[0]
 }
 
-// The coefficients of low + (x + d X) × (high - low) from the first m of low and of high: one more.
-fn along(
-    f: Field,
-    x: u32,
-    d: u32,
-    low: [u32; MAX_COEFFICIENTS],
-    high: [u32; MAX_COEFFICIENTS],
-    m: usize,
-) -> [u32; MAX_COEFFICIENTS]
-    requires { ⌜ m < maxCoefficients ⌝ }
-    ensures { λ r. ⌜ r ≡ padded (along (numbers f) x d 0 (take m low) (take m high)) ⌝ }
+// The coefficients of low + (x + d X) × (high - low), one more than high has, over those of low at the front of the row.
+fn along(f: Field, x: u32, d: u32, row: &mut [u32], high: &[u32])
+    requires { ⌜ length (now high) < length (now row) ⌝ }
+    ensures { λ r. ⌜ now (row .exit) ≡ over (along (numbers f) x d 0 (take (length (now (high .entry))) (now (row .entry))) (now (high .entry))) (now (row .entry)) ⌝ }
 {
-    let mut row = [0u32; MAX_COEFFICIENTS];
+    let m = high.len();
     let mut carry = Field::ZERO;
     let mut i = 0;
     while i < m {
-        let a = low[i];
+        let a = row[i];
         let difference = f.sub(high[i], a);
         row[i] = f.add(f.add(a, f.mul(x, difference)), f.mul(d, carry));
         carry = difference;
         i += 1;
     }
     row[m] = f.mul(d, carry);
-    row
 }
 
-// The coefficients along the line from u to v, from those of the values' halves; the number of coordinates that remain falls. A single
-// coordinate needs no further call.
-fn halves(f: Field, values: &[u32], u: &[u32], v: &[u32]) -> [u32; MAX_COEFFICIENTS]
-    requires { ⌜ (length (now u) ≡ length (now v)) × (length (now u) ≤ maxExponent) ⌝ }
-    ensures { λ r. ⌜ r ≡ padded (lineHalving (numbers f) (now (values .entry)) (now (u .entry)) (now (v .entry))) ⌝ }
+// The coefficients along the line from u to v, at the front of the row, from those of the values' halves; the number of coordinates that
+// remain falls. A single coordinate needs no further call.
+fn halves(f: Field, values: &[u32], u: &[u32], v: &[u32], row: &mut [u32])
+    requires { ⌜ (length (now u) ≡ length (now v)) × (length (now u) ≤ maxExponent) × (length (now u) < length (now row)) ⌝ }
+    ensures { λ r. ⌜ now (row .exit) ≡ over (lineHalving (numbers f) (now (values .entry)) (now (u .entry)) (now (v .entry))) (now (row .entry)) ⌝ }
 {
     let m = u.len();
     if m == 0 {
-        return constant(values);
+        row[0] = first(values);
+        return;
     }
     let half = values.len() / 2;
     let x = u[0];
     let d = f.sub(v[0], x);
     if m == 1 {
-        return along(
-            f,
-            x,
-            d,
-            constant(&values[..half]),
-            constant(&values[half..]),
-            1,
-        );
+        row[0] = first(&values[..half]);
+        let upper = [first(&values[half..])];
+        along(f, x, d, row, &upper);
+        return;
     }
-    let low = halves(f, &values[..half], &u[1..], &v[1..]);
-    let high = halves(f, &values[half..], &u[1..], &v[1..]);
-    along(f, x, d, low, high, m)
+    halves(f, &values[..half], &u[1..], &v[1..], row);
+    let mut upper = [0u32; MAX_COEFFICIENTS];
+    halves(f, &values[half..], &u[1..], &v[1..], &mut upper);
+    along(f, x, d, row, &upper[..m]);
 }
 
 // The coordinates of a row that are asked for: no more than it has.
@@ -104,5 +94,7 @@ pub fn line_message(
     let n = coordinates(k);
     let u = points[0];
     let v = points[1];
-    halves(f, values, &u[..n], &v[..n])
+    let mut row = [0u32; MAX_COEFFICIENTS];
+    halves(f, values, &u[..n], &v[..n], &mut row);
+    row
 }

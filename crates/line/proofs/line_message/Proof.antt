@@ -46,9 +46,12 @@ slice-aggregate-halves-2 c =
     let start = counted .before .before in
     length-part (start .args .t3) _ _ (start .args .k) _ (start .good .1 .1 .0) (omega arith) (counted .coordinates .ensures)
 
+slice-aggregate-halves-3 : tie.Need-slice-aggregate-halves-3
+slice-aggregate-halves-3 c = search needs
+
 halves-requires : tie.Need-halves-requires
 halves-requires c κs =
-    let counted = c .before .before .before .before in
+    let counted = c .before .before .before .before .before in
     let start = counted .before .before in
     let rows = start .good .1 .1 .0 in
     let size = length-row 2 maxExponent (start .args .t3) _ 0 rows (omega arith) in
@@ -57,16 +60,18 @@ halves-requires c κs =
       sym (length-part (start .args .t3) _ _ (start .args .k) _ rows (omega arith) (counted .coordinates .ensures))
           ∙ length-part (start .args .t3) _ _ (start .args .k) _ rows (omega arith) (counted .coordinates .ensures),
       omega arith,
+      omega arith,
     )
 
 returns : tie.Need-returns
 returns c =
-    let counted = c .before .before .before .before .before in
+    let counted = c .before .before .before .before .before .before .before in
     let start = counted .before .before in
-    c .halves .ensures
+    let rows = start .good .1 .1 .0 in
+    c .before .halves .ensures
     ∙ ap₂ (λ (u v : List ℕ). padded (lineHalving (numbers (start .args .f)) (start .args .values .now) u v))
-    (part-of-row (start .args .t3) _ 0 (start .args .k) _ (start .good .1 .1 .0) (omega arith) (counted .coordinates .ensures))
-    (part-of-row (start .args .t3) _ 1 (start .args .k) _ (start .good .1 .1 .0) (omega arith) (counted .coordinates .ensures))
+    (part-of-row (start .args .t3) _ 0 (start .args .k) _ rows (omega arith) (counted .coordinates .ensures))
+    (part-of-row (start .args .t3) _ 1 (start .args .k) _ rows (omega arith) (counted .coordinates .ensures))
 
 pub line-message-spec : {M : Type 1} → statement M
 line-message-spec =
@@ -79,5 +84,6 @@ line-message-spec =
     slice-aggregate-halves
     array-share-prefix-v
     slice-aggregate-halves-2
+    slice-aggregate-halves-3
     halves-requires
     returns)
