@@ -1,6 +1,6 @@
 -- Laws of a layer that is filled: its gates by their words, and their values.
 -- Assumes nothing.
-use Prim.Native.Nat.{ℕ, zero, suc, _+_, _-_, _*_, _≤_, _<_}
+use Prim.Native.Nat.{ℕ, zero, suc, _+_, _*_, _≤_, _<_}
 use mathlib.Core.Path.{_≡_, refl, sym, ap, ap₂, _∙_}
 use mathlib.Core.List.{List, [], _∷_, map}
 use native.Mathlib.Nat.{le-of-suc-le-suc}
@@ -9,6 +9,7 @@ use lib.ListN.{length, getD, set, take, drop, length-map}
 use lib.Seq.{getD-drop, length-take-le}
 use Rattle.lists.specs.Buffer.{over}
 use Rattle.lists.proofs.Buffer.{over-next, getD-over-after}
+use Rattle.lists.proofs.Map.{getD-map-lt}
 use Rattle.refusal.proofs.Order.{first-none}
 use Rattle.algebra.specs.Numbers.{Numbers, words}
 use Rattle.circuit.proofs.Legal.{gate-wires, gates-wires, length-gates}
@@ -16,11 +17,6 @@ use Rattle.circuit.specs.Gate.{Gate, gate, operate, gateValue}
 use Rattle.circuit.specs.Circuit.{gatesOf}
 use Rattle.circuit.specs.Legal.{gateCause, gatesCause}
 use Rattle.evaluation.specs.Layer.{layerValues}
-
-getD-map-lt : {A B : Type 0} (f : A → B) (l : List A) (i : ℕ) (d : B) (e : A) → i < length l → getD (map f l) i d ≡ f (getD l i e)
-getD-map-lt f [] i d e h = absurd (omega arith)
-getD-map-lt f (x ∷ l) zero d e h = refl
-getD-map-lt f (x ∷ l) (suc i) d e h = getD-map-lt f l i d e (le-of-suc-le-suc h)
 
 -- gate i is words 3 i to 3 i + 2
 gate-words : (n i : ℕ) (ws : List ℕ) (e : Gate) → i < n

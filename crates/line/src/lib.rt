@@ -4,9 +4,7 @@ use extension::MAX_COORDINATES;
 use field::Field;
 ghost use Prim.Native.Nat.{_≤_, _<_};
 ghost use mathlib.Core.Path.{_≡_};
-ghost use mathlib.Core.Bool.{cond};
 ghost use mathlib.Core.List.{[]};
-ghost use lib.Dec.{ltb};
 ghost use lib.ListN.{length, take, getD};
 ghost use Rattle.lists.specs.Buffer.{over};
 ghost use Rattle.field.specs.Modulus.{numbers};
@@ -71,16 +69,6 @@ fn halves(f: Field, values: &[u32], u: &[u32], v: &[u32], row: &mut [u32])
     along(f, x, d, row, &upper[..m]);
 }
 
-// The coordinates of a row that are asked for: no more than it has.
-fn coordinates(k: usize) -> usize
-    ensures { λ r. ⌜ r ≡ cond (ltb k maxExponent) k maxExponent ⌝ }
-{
-    if k < MAX_COORDINATES {
-        return k;
-    }
-    MAX_COORDINATES
-}
-
 // The coefficients, constant first, of the extension of the values along the line from the first row to the second, and 0 in the words
 // behind them. The points are the first k words of each row; a k above the length of a row stands for all of it.
 pub fn line_message(
@@ -91,7 +79,7 @@ pub fn line_message(
 ) -> [u32; MAX_COEFFICIENTS]
     ensures { λ r. ⌜ r ≡ padded (lineHalving (numbers f) (now (values .entry)) (take k (getD points 0 [])) (take k (getD points 1 []))) ⌝ }
 {
-    let n = coordinates(k);
+    let n = lists::least(k, MAX_COORDINATES);
     let u = points[0];
     let v = points[1];
     let mut row = [0u32; MAX_COEFFICIENTS];

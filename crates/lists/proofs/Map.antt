@@ -2,8 +2,10 @@
 -- Assumes nothing.
 use mathlib.Core.Path.{_≡_, refl, ap, ap₂}
 use mathlib.Core.List.{List, [], _∷_, _++_, map}
-use Prim.Native.Nat.{ℕ, zero, suc}
-use lib.ListN.{take, drop}
+use Prim.Native.Nat.{ℕ, zero, suc, _<_}
+use native.Mathlib.Nat.{le-of-suc-le-suc}
+use native.Mathlib.Omega.{arith}
+use lib.ListN.{length, getD, take, drop}
 
 module _ {A B : Type 0} (f : A → B) where
   pub map-append : (l m : List A) → map f (l ++ m) ≡ map f l ++ map f m
@@ -27,6 +29,12 @@ module _ {A B : Type 0} (f : A → B) where
   pub map-same : (g : A → B) (l : List A) → ((x : A) → f x ≡ g x) → map f l ≡ map g l
   map-same g [] e = refl
   map-same g (x ∷ l) e = ap₂ (λ (b : B) (t : List B). b ∷ t) (e x) (map-same g l e)
+
+  -- an element that is there, whatever stands for one that isn't
+  pub getD-map-lt : (l : List A) (i : ℕ) (d : B) (e : A) → i < length l → getD (map f l) i d ≡ f (getD l i e)
+  getD-map-lt [] i d e h = absurd (omega arith)
+  getD-map-lt (x ∷ l) zero d e h = refl
+  getD-map-lt (x ∷ l) (suc i) d e h = getD-map-lt l i d e (le-of-suc-le-suc h)
 
 pub map-id : {A : Type 0} (f : A → A) (l : List A) → ((x : A) → f x ≡ x) → map f l ≡ l
 map-id f [] e = refl

@@ -7,3 +7,4 @@ pub mod Hom
 pub mod Linear
 pub mod Degree
 pub mod Words
+pub mod Tables

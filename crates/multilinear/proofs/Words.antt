@@ -96,7 +96,7 @@ module _ (p : ℕ) (pos : 0 < p) where
   plus-below (c ∷ f) [] h k = h
   plus-below (c ∷ f) (d ∷ g) h k = (mod-lt (c + d) pos, plus-below f g (h .1) (k .1))
 
-  scaled-below : (c : ℕ) (g : List ℕ) → All (λ c. c < p) (map (λ d. words p .mul c d) g)
+  pub scaled-below : (c : ℕ) (g : List ℕ) → All (λ c. c < p) (map (λ d. words p .mul c d) g)
   scaled-below c [] = tt
   scaled-below c (d ∷ g) = (mod-lt (c * d) pos, scaled-below c g)
 
