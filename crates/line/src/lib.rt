@@ -28,7 +28,7 @@ fn first(values: &[u32]) -> u32
 // The coefficients of low + (x + d X) × (high - low), one more than high has, over those of low at the front of the row.
 fn along(f: Field, x: u32, d: u32, row: &mut [u32], high: &[u32])
     requires { ⌜ length (now high) < length (now row) ⌝ }
-    ensures { λ r. ⌜ now (row .exit) ≡ over (along (numbers f) x d 0 (take (length (now (high .entry))) (now (row .entry))) (now (high .entry))) (now (row .entry)) ⌝ }
+    ensures { λ _. ⌜ now (row .exit) ≡ over (along (numbers f) x d 0 (take (length (now (high .entry))) (now (row .entry))) (now (high .entry))) (now (row .entry)) ⌝ }
 {
     let m = high.len();
     let mut carry = Field::ZERO;
@@ -47,7 +47,7 @@ fn along(f: Field, x: u32, d: u32, row: &mut [u32], high: &[u32])
 // remain falls. A single coordinate needs no further call.
 fn halves(f: Field, values: &[u32], u: &[u32], v: &[u32], row: &mut [u32])
     requires { ⌜ (length (now u) ≡ length (now v)) × (length (now u) ≤ maxExponent) × (length (now u) < length (now row)) ⌝ }
-    ensures { λ r. ⌜ now (row .exit) ≡ over (lineHalving (numbers f) (now (values .entry)) (now (u .entry)) (now (v .entry))) (now (row .entry)) ⌝ }
+    ensures { λ _. ⌜ now (row .exit) ≡ over (lineHalving (numbers f) (now (values .entry)) (now (u .entry)) (now (v .entry))) (now (row .entry)) ⌝ }
 {
     let m = u.len();
     if m == 0 {

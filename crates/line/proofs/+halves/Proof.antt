@@ -94,7 +94,10 @@ module _ (t : ℕ) where
       rw (length-set (entry .args .row .now) 0 (c .before .before .before .before .first2 .result)) (omega arith)
 
   same-length-2 : halves-lts.Need-same-length-2 (claims t) (halves-at t) halves.Post
-  same-length-2 c = c .before .before .along .kept .1 .1 .1 .0 ∙ length-set (c .before .before .before .before .before .before .before .before .before .before .before .before .before .before .before .before .before .before .args .row .now) 0 _
+  same-length-2 c =
+      let joined = c .before .before in
+      let entry = joined .before .before .before .before .before .before .before .before .before .before .before .before .before .before .before .before in
+      joined .along .kept .1 .1 .1 .0 ∙ length-set (entry .args .row .now) 0 _
 
   returns-2 : halves-lts.Need-returns-2 (claims t) (halves-at t) halves.Post
   returns-2 c =
