@@ -13,8 +13,9 @@ use Rattle.circuit.specs.Circuit.{primeOf, depth, exponentAt}
 use Rattle.circuit.specs.Sized.{LayerOf}
 use Rattle.circuit.proofs.Sized.{deep}
 use Rattle.sumcheck.specs.Summand.{linePoint}
+use Rattle.sumcheck.proofs.Message.{length-line}
 use Rattle.sumcheck.proofs.Words.{line-point-length}
-use Rattle.summand.proofs.Line.{length-line, take-line}
+use Rattle.summand.proofs.Line.{take-line}
 use Rattle.protocol.specs.Rounds.{layerStart}
 use Rattle.protocol.specs.Judge.{lineEnd, pointAt}
 use Rattle.protocol.proofs.Points.{start-next}

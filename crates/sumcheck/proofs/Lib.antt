@@ -4,3 +4,4 @@ pub mod Layer
 pub mod Degree
 pub mod Message
 pub mod Words
+pub mod Line
