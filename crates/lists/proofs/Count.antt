@@ -32,10 +32,12 @@ unfolding sum
 sum-append [] m = sym (zero-add _)
 sum-append (n ∷ l) m = let ih = sum-append l m in omega arith
 
-pub sum-take : (f : ℕ → ℕ) (l : List ℕ) (i : ℕ) → i < length l → sum (map f (take (suc i) l)) ≡ sum (map f (take i l)) + f (getD l i 0)
-sum-take f l i h =
-    ap (λ (m : List ℕ). sum (map f m)) (take-suc l i 0 h) ∙ ap sum (map-append f (take i l) (getD l i 0 ∷ []))
-    ∙ sum-append (map f (take i l)) (f (getD l i 0) ∷ []) ∙ ap (λ (n : ℕ). sum (map f (take i l)) + n) (sum-cons (f (getD l i 0)) [] ∙ rw sum-nil (add-zero (f (getD l i 0))))
+pub sum-take : {A : Type 0} (f : A → ℕ) (l : List A) (d : A) (i : ℕ) → i < length l → sum (map f (take (suc i) l)) ≡ sum (map f (take i l)) + f (getD l i d)
+sum-take {A} f l d i h =
+    ap (λ (m : List A). sum (map f m)) (take-suc l i d h)
+    ∙ ap sum (map-append f (take i l) (getD l i d ∷ []))
+    ∙ sum-append (map f (take i l)) (f (getD l i d) ∷ [])
+    ∙ ap (λ (n : ℕ). sum (map f (take i l)) + n) (sum-cons (f (getD l i d)) [] ∙ rw sum-nil (add-zero (f (getD l i d))))
 
 pub sum-replicate : (n d : ℕ) → sum (replicate n d) ≡ n * d
 unfolding sum

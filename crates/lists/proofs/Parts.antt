@@ -1,10 +1,13 @@
--- A part of a list is no longer than the list.
+-- Parts of lists.
 -- Assumes nothing.
 use mathlib.Core.Path.{_≡_, sym, ap, _∙_}
-use mathlib.Core.List.{List, [], _∷_}
-use Prim.Native.Nat.{ℕ, zero, suc, min}
-use native.Mathlib.Nat.{zero-min, min-zero, suc-min-suc}
-use lib.ListN.{length, take, length-take}
+use mathlib.Core.List.{List, [], _∷_, _++_, map, flatten}
+use Prim.Native.Nat.{ℕ, zero, suc, _<_, min}
+use native.Mathlib.Nat.{zero-min, min-zero, suc-min-suc, not-suc-le-zero, le-of-suc-le-suc}
+use lib.ListN.{length, take, drop, getD, length-take}
+use lib.Seq.{take-append-seam, drop-append-seam, drop-drop}
+use Rattle.lists.specs.Count.{sum}
+use Rattle.lists.proofs.Count.{sum-nil, sum-cons}
 
 -- to take more than there is, is to take all
 pub take-most : {A : Type 0} (n : ℕ) (l : List A) → take (min n (length l)) l ≡ take n l
@@ -14,3 +17,14 @@ take-most (suc n) (x ∷ l) = ap (λ k. take k (x ∷ l)) (suc-min-suc n (length
 
 pub length-most : {A : Type 0} (k m n : ℕ) (l : List A) → length l ≡ m → n ≡ min k m → n ≡ length (take k l)
 length-most k m n l size e = e ∙ ap (min k) (sym size) ∙ sym (length-take k l)
+
+-- a list of lists, one after another: list i is where those before it end
+pub flatten-part : {A : Type 0} (ls : List (List A)) (i : ℕ) → i < length ls
+    → take (length (getD ls i [])) (drop (sum (map length (take i ls))) (flatten ls)) ≡ getD ls i []
+unfolding flatten
+flatten-part [] i h = absurd (not-suc-le-zero h)
+flatten-part (l ∷ ls) zero h = ap (λ (n : ℕ). take (length l) (drop n (l ++ flatten ls))) sum-nil ∙ take-append-seam l (flatten ls)
+flatten-part (l ∷ ls) (suc i) h =
+    ap (λ (n : ℕ). take (length (getD ls i [])) (drop n (l ++ flatten ls))) (sum-cons (length l) (map length (take i ls)))
+    ∙ ap (take (length (getD ls i []))) (sym (drop-drop (sum (map length (take i ls))) (length l) (l ++ flatten ls)) ∙ ap (drop (sum (map length (take i ls)))) (drop-append-seam l (flatten ls)))
+    ∙ flatten-part ls i (le-of-suc-le-suc h)

@@ -17,7 +17,7 @@ use Rattle.protocol.specs.Judge.{fixed, lineEnd, pointAt}
 module _ (c : List ℕ) where
   pub start-next : (l : ℕ) → l < length (exponents c) → layerStart c (suc (suc l)) ≡ layerStart c (suc l) + 2 * exponentAt c (suc l) + 1
   start-next l h =
-      let next = sum-take (λ k. 2 * k + 1) (exponents c) l h in
+      let next = sum-take (λ k. 2 * k + 1) (exponents c) 0 l h in
       omega arith
 
   pub fixed-more : (i : ℕ) (past : List ℕ) (t : ℕ) → layerStart c i ≤ length past → fixed c i (past ++ (t ∷ [])) ≡ fixed c i past ++ (t ∷ [])

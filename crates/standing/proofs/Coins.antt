@@ -39,7 +39,7 @@ module _ (c : List ℕ) (a : ℕ) where
       let next : suc l + 1 - 1 ≡ suc l = omega arith in
       ap (λ (m : ℕ). total + (a * m + 1)) ek
       ∙ ap (λ (m : ℕ). m + (a * exponentAt c (suc l) + 1)) (e ∙ ap (λ (m : ℕ). layerSum a (take m (exponents c))) there)
-      ∙ sym (sum-take (λ k. a * k + 1) (exponents c) l (omega (arith, deep c h)))
+      ∙ sym (sum-take (λ k. a * k + 1) (exponents c) 0 l (omega (arith, deep c h)))
       ∙ ap (λ (m : ℕ). layerSum a (take m (exponents c))) (sym next)
 
   pub sum-all : LegalCircuit c → layerSum a (take (depth c + 1 - 1) (exponents c)) ≡ layerSum a (exponents c)
