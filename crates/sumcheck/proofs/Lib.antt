@@ -4,3 +4,5 @@ pub mod Layer
 pub mod Degree
 pub mod Message
 pub mod Words
+pub mod Sides
+pub mod Gatewise

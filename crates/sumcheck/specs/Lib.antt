@@ -1,3 +1,4 @@
 pub mod Summand
 pub mod Message
 pub mod Theorems
+pub mod Gatewise
