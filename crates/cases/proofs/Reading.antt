@@ -3,12 +3,12 @@
 use mathlib.Core.Path.{_≡_, refl, sym, ap, _∙_}
 use mathlib.Core.List.{List, [], _∷_, _++_}
 use Prim.Native.Nat.{ℕ, zero, suc, _+_, _-_, _*_, _%_, _≤_, _<_, min}
-use native.Mathlib.Nat.{zero-min, min-zero, suc-min-suc}
 use borrow.Author.Tests.{lt-leb, le-leb}
 use native.Mathlib.Numerals.{add-one}
 use native.Mathlib.Omega.{arith}
 use lib.ListN.{length, getD, take, drop, length-append, length-drop, drop-of-length-le}
 use lib.Seq.{drop-cons, take-nil}
+use Rattle.lists.proofs.Parts.{take-most}
 use Rattle.cases.specs.Words.{wordAt, firstWords}
 use Rattle.cases.specs.Parts.{partAt, pastAt}
 use Rattle.cases.specs.Checksum.{modulus, checksumFrom}
@@ -38,12 +38,6 @@ length-words zero l = refl
 length-words (suc n) l = simp length-append (omega (arith, length-words n l))
 
 -- PARTS
--- to take more than there is, is to take all
-take-most : (n : ℕ) (l : List ℕ) → take (min n (length l)) l ≡ take n l
-take-most zero l = ap (λ k. take k l) (zero-min (length l))
-take-most (suc n) [] = ap (λ (k : ℕ). take k []) (min-zero (suc n))
-take-most (suc n) (x ∷ l) = ap (λ k. take k (x ∷ l)) (suc-min-suc n (length l)) ∙ ap (λ t. x ∷ t) (take-most n l)
-
 -- a part that ends with the list or is cut off by its end, and one that ends before
 pub past-end : (l : List ℕ) (at : ℕ) → length l ≤ at + (4 + wordAt l at) → length l ≡ pastAt l at
 unfolding pastAt

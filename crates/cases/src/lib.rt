@@ -79,7 +79,7 @@ pub fn words(bytes: &[u8], buffer: &mut [u32]) -> usize
     ensures count { λ r. ⌜ r ≡ min (length (now (bytes .entry)) / 4) (length (now (buffer .entry))) ⌝ }
     ensures words { λ r. ⌜ now (buffer .exit) ≡ over (firstWords r (now (bytes .entry))) (now (buffer .entry)) ⌝ }
 {
-    let count = least(bytes.len() / 4, buffer.len());
+    let count = lists::least(bytes.len() / 4, buffer.len());
     for i in 0..count {
         buffer[i] = word(bytes, 4 * i);
     }
@@ -92,17 +92,11 @@ pub fn fill(buffer: &mut [u32], count: usize, value: u32) -> usize
     ensures count { λ r. ⌜ r ≡ min count (length (now (buffer .entry))) ⌝ }
     ensures words { λ r. ⌜ now (buffer .exit) ≡ replicate r value ++ drop r (now (buffer .entry)) ⌝ }
 {
-    let most = least(count, buffer.len());
+    let most = lists::least(count, buffer.len());
     for i in 0..most {
         buffer[i] = value;
     }
     most
-}
-
-fn least(a: usize, b: usize) -> usize
-    ensures { λ r. ⌜ (r ≤ a) × (r ≤ b) × (r ≡ min a b) ⌝ }
-{
-    if a < b { a } else { b }
 }
 
 // The checksum of words, which a generator of expected answers computes as well.

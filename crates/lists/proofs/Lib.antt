@@ -2,3 +2,4 @@ pub mod Each
 pub mod Map
 pub mod Count
 pub mod Buffer
+pub mod Parts

@@ -4,10 +4,9 @@ use field::Field;
 ghost use mathlib.Core.Path.{_≡_};
 ghost use mathlib.Core.Bool.{cond};
 ghost use mathlib.Core.List.{[]};
-ghost use lib.Dec.{eqb, ltb};
+ghost use lib.Dec.{eqb};
 ghost use lib.ListN.{take, getD};
 ghost use Rattle.field.specs.Modulus.{numbers};
-ghost use Rattle.circuit.specs.Limits.{maxExponent};
 ghost use Rattle.circuit.specs.Gate.{gate};
 ghost use Rattle.sumcheck.specs.Summand.{wiring, combined, linePoint};
 ghost use Rattle.summand.specs.Gates.{gatesIn, gateWeight};
@@ -82,16 +81,6 @@ fn wiring(f: Field, gates: &[u32], point: &[u32], u: &[u32], v: &[u32]) -> Sums
     Sums { adds, products }
 }
 
-// The coordinates of a row that are asked for: no more than it has.
-fn coordinates(k: usize) -> usize
-    ensures { λ r. ⌜ r ≡ cond (ltb k maxExponent) k maxExponent ⌝ }
-{
-    if k < MAX_COORDINATES {
-        return k;
-    }
-    MAX_COORDINATES
-}
-
 // The summand at the two points, the first k coordinates of each row, where the next layer's extension is x at the first and y at the second:
 // A × (x + y) + M × x × y. A k above the length of a row stands for all of it.
 pub fn combined(
@@ -105,7 +94,7 @@ pub fn combined(
 ) -> u32
     ensures { λ r. ⌜ r ≡ combined (numbers f) (gatesIn (now (gates .entry))) (now (point .entry)) (take k (getD points 0 [])) (take k (getD points 1 [])) x y ⌝ }
 {
-    let n = coordinates(k);
+    let n = lists::least(k, MAX_COORDINATES);
     let u = points[0];
     let v = points[1];
     let sums = wiring(f, gates, point, &u[..n], &v[..n]);

@@ -8,8 +8,8 @@ use borrow.Author.Needs.{needs}
 use Rattle.summand.proofs.combined.Statement.{statement}
 use Rattle.summand.proofs.combined.Tie as tie
 
-coordinates-requires : tie.Need-coordinates-requires
-coordinates-requires c κs = search needs
+least-requires : tie.Need-least-requires
+least-requires c κs = search needs
 
 array-copy-out-u : tie.Need-array-copy-out-u
 array-copy-out-u c = search needs
@@ -20,22 +20,22 @@ array-copy-out-v c = search needs
 array-share-prefix-u : tie.Need-array-share-prefix-u
 array-share-prefix-u c =
     let start = c .before .before .before .before .before in
-    row-holds (start .args .t4) _ 0 (start .args .k) _ (start .good .1 .1 .1 .0) (omega arith) (c .before .before .coordinates .ensures)
+    row-holds (start .args .t4) _ 0 (start .args .k) _ (start .good .1 .1 .1 .0) (omega arith) (c .before .before .least .ensures)
 
 slice-aggregate-wiring : tie.Need-slice-aggregate-wiring
 slice-aggregate-wiring c =
     let start = c .before .before .before .before .before .before in
-    length-part (start .args .t4) _ 0 (start .args .k) _ (start .good .1 .1 .1 .0) (omega arith) (c .before .before .before .coordinates .ensures)
+    length-part (start .args .t4) _ 0 (start .args .k) _ (start .good .1 .1 .1 .0) (omega arith) (c .before .before .before .least .ensures)
 
 array-share-prefix-v : tie.Need-array-share-prefix-v
 array-share-prefix-v c =
     let start = c .before .before .before .before .before .before in
-    row-holds (start .args .t4) _ 1 (start .args .k) _ (start .good .1 .1 .1 .0) (omega arith) (c .before .before .before .coordinates .ensures)
+    row-holds (start .args .t4) _ 1 (start .args .k) _ (start .good .1 .1 .1 .0) (omega arith) (c .before .before .before .least .ensures)
 
 slice-aggregate-wiring-2 : tie.Need-slice-aggregate-wiring-2
 slice-aggregate-wiring-2 c =
     let start = c .before .before .before .before .before .before .before in
-    length-part (start .args .t4) _ 1 (start .args .k) _ (start .good .1 .1 .1 .0) (omega arith) (c .before .before .before .before .coordinates .ensures)
+    length-part (start .args .t4) _ 1 (start .args .k) _ (start .good .1 .1 .1 .0) (omega arith) (c .before .before .before .before .least .ensures)
 
 wiring-requires : tie.Need-wiring-requires
 wiring-requires c κs = search needs
@@ -59,8 +59,8 @@ returns : tie.Need-returns
 returns c =
     let wired = c .before .before .before .before .before in
     let start = c .before .before .before .before .before .before .before .before .before .before .before .before .before in
-    let n = c .before .before .before .before .before .before .before .before .before .before .coordinates .result in
-    let counted = c .before .before .before .before .before .before .before .before .before .before .coordinates .ensures in
+    let n = c .before .before .before .before .before .before .before .before .before .before .least .result in
+    let counted = c .before .before .before .before .before .before .before .before .before .before .least .ensures in
     let rows = start .good .1 .1 .1 .0 in
     from-sums _ _ _ _ _ _ _ _ _ _ _ _ _ _ _ _ (part-of-row (start .args .t4) _ 0 (start .args .k) n rows (omega arith) counted)
     (part-of-row (start .args .t4) _ 1 (start .args .k) n rows (omega arith) counted) (wired .wiring .ensures) (c .before .before .before .before .add .ensures)
@@ -70,7 +70,7 @@ pub combined-spec : {M : Type 1} → statement M
 combined-spec =
     tie.close
     (tie.spec
-    coordinates-requires
+    least-requires
     array-copy-out-u
     array-copy-out-v
     array-share-prefix-u
