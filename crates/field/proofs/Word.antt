@@ -6,6 +6,7 @@ use native.Mathlib.Nat.{mod-lt, mod-eq-of-lt, mod-eq-sub-mod, div-add-mod, add-m
 use native.Mathlib.Omega.{arith}
 use lib.Pow.{pow-pos}
 use lib.Dec.{lit<}
+use Rattle.algebra.proofs.Euclid.{mod-mul-left}
 use mir.Val.{Fits}
 use mir.Syntax.{w32, w64}
 
@@ -35,6 +36,10 @@ once l h = sym (mod-eq-sub-mod l ∙ mod-eq-of-lt h)
 -- multiples of p taken off
 pub less-multiple : (n q p : ℕ) → q * p ≤ n → (n - q * p) % p ≡ n % p
 less-multiple n q p h = sym (add-mul-mod-self-right (n - q * p) q p) ∙ ap (λ (k : ℕ). k % p) (sub-add-cancel h)
+
+-- a product by a multiplier is one by the word that it was made of
+pub by-residue : (p z by x : ℕ) → by ≡ z % p → (by * x) % p ≡ (z * x) % p
+by-residue p z by x e = ap (λ (n : ℕ). (n * x) % p) e ∙ mod-mul-left z x p
 
 -- a difference, with the modulus added first
 pub difference : (p a b : ℕ) → 0 < p → b ≤ a + p → (a + p - b) % p ≡ (a + (p - b % p)) % p

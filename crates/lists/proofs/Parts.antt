@@ -1,13 +1,16 @@
 -- A part of a list is no longer than the list.
 -- Assumes nothing.
-use mathlib.Core.Path.{_≡_, ap, _∙_}
+use mathlib.Core.Path.{_≡_, sym, ap, _∙_}
 use mathlib.Core.List.{List, [], _∷_}
 use Prim.Native.Nat.{ℕ, zero, suc, min}
 use native.Mathlib.Nat.{zero-min, min-zero, suc-min-suc}
-use lib.ListN.{length, take}
+use lib.ListN.{length, take, length-take}
 
 -- to take more than there is, is to take all
 pub take-most : {A : Type 0} (n : ℕ) (l : List A) → take (min n (length l)) l ≡ take n l
 take-most zero l = ap (λ k. take k l) (zero-min (length l))
 take-most {A} (suc n) [] = ap (λ (k : ℕ). take {A = A} k []) (min-zero (suc n))
 take-most (suc n) (x ∷ l) = ap (λ k. take k (x ∷ l)) (suc-min-suc n (length l)) ∙ ap (λ t. x ∷ t) (take-most n l)
+
+pub length-most : {A : Type 0} (k m n : ℕ) (l : List A) → length l ≡ m → n ≡ min k m → n ≡ length (take k l)
+length-most k m n l size e = e ∙ ap (min k) (sym size) ∙ sym (length-take k l)

@@ -1,0 +1,85 @@
+-- A table with variables fixed, one after another, at its own front: the entries of a fold are made of two that are not yet written over.
+-- Assumes nothing.
+use mathlib.Core.Path.{_≡_, refl, sym, ap, ap₂, _∙_}
+use mathlib.Core.List.{List, [], _∷_, _++_}
+use Prim.Native.Nat.{ℕ, _+_, _/_, _≤_, _<_}
+use native.Mathlib.Numerals.{add-one}
+use native.Mathlib.Omega.{arith}
+use lib.ListN.{length, take, drop, getD, set}
+use lib.Seq.{length-take-le, take-suc, take-all}
+use Rattle.lists.specs.Buffer.{over}
+use Rattle.lists.proofs.Buffer.{over-next, over-all, getD-over-after}
+use Rattle.algebra.specs.Numbers.{Numbers}
+use Rattle.multilinear.specs.Extension.{between, fold}
+use Rattle.multilinear.specs.Tables.{folded}
+use Rattle.multilinear.proofs.Tables.{length-fold, getD-fold, folded-none, folded-one, folded-append}
+use Rattle.tables.specs.Table.{maxWidth}
+use Rattle.tables.proofs.Front.{length-back, front-back}
+
+module _ {C : Type 0} (N : Numbers C) (r : C) (t₀ : List C) where
+  abbrev half : ℕ
+  half = length t₀ / 2
+
+  -- b entries of the fold stand
+  pub record Fold (t : List C) (b : ℕ) : Type 0 where
+    pub within : b ≤ half
+    pub written : t ≡ over (take b (fold N r t₀)) t₀
+
+  pub start : Fold t₀ 0
+  start = record { within = omega arith; written = refl }
+
+  entry : (t : List C) (b j : ℕ) (d : C) → Fold t b → b ≤ j → getD t j d ≡ getD t₀ j d
+  entry t b j d h l =
+      let size : length (take b (fold N r t₀)) ≡ b =
+      length-take-le b (fold N r t₀) (omega (arith, length-fold N r t₀, h .within)) in
+      ap (λ (l : List C). getD l j d) (h .written) ∙ getD-over-after (take b (fold N r t₀)) t₀ j d (omega arith)
+
+  pub step : (t : List C) (b : ℕ) (d x : C) → Fold t b → b < half → x ≡ between N r (getD t b d) (getD t (half + b) d)
+      → Fold (set t b x) (b + 1)
+  step t b d x h more e =
+      let size = length-fold N r t₀ in
+      record {
+        within = omega arith;
+        written = ap₂ (λ (l : List C) (y : C). set l b y) (h .written)
+            (e ∙ ap₂ (between N r) (entry t b b d h (omega arith)) (entry t b (half + b) d h (omega arith)) ∙ sym (getD-fold N r t₀ b d more))
+            ∙ over-next (fold N r t₀) t₀ b d (omega arith) (omega arith);
+      }
+
+  pub end : (t : List C) (b : ℕ) → Fold t b → half ≤ b → t ≡ over (fold N r t₀) t₀
+  end t b h all = h .written ∙ over-all (fold N r t₀) t₀ b (omega (arith, length-fold N r t₀))
+
+-- the first variables of vs fixed at the first i coordinates of a point, at the front of a table
+module _ {C : Type 0} (N : Numbers C) (point vs : List C) where
+  pub record Fixed (l : List C) (n i : ℕ) : Type 0 where
+    pub reached : i ≤ length point
+    pub within : n ≤ maxWidth
+    pub size : length l ≡ maxWidth
+    pub holds : take n l ≡ folded N (take i point) vs
+
+  pub none-fixed : (l : List C) (n : ℕ) → n ≤ maxWidth → length l ≡ maxWidth → take n l ≡ vs → Fixed l n 0
+  none-fixed l n h size e = record {
+    reached = omega arith;
+    within = h;
+    size = size;
+    holds = e ∙ sym (folded-none N vs);
+  }
+
+  pub fix-next : (l part : List C) (n i : ℕ) (d r : C) → Fixed l n i → i < length point → r ≡ getD point i d
+      → part ≡ over (fold N r (take n l)) (take n l) → Fixed (part ++ drop n l) (n / 2) (i + 1)
+  fix-next l part n i d r h more er e =
+      let within = h .within in
+      let size = h .size in
+      let count : length (take n l) ≡ n = length-take-le n l (omega arith) in
+      let halved : length (fold N r (take n l)) ≡ n / 2 = length-fold N r (take n l) ∙ ap (λ (m : ℕ). m / 2) count in
+      record {
+        reached = omega arith;
+        within = omega arith;
+        size = length-back l part (fold N r (take n l)) n e (omega arith) (omega arith) ∙ size;
+        holds = ap (λ (m : ℕ). take m (part ++ drop n l)) (sym halved) ∙ front-back l part (fold N r (take n l)) n e
+            ∙ ap₂ (fold N) er (h .holds) ∙ sym (folded-one N (getD point i d) (folded N (take i point) vs))
+            ∙ sym (folded-append N (take i point) (getD point i d ∷ []) vs)
+            ∙ ap (λ (xs : List C). folded N xs vs) (sym (take-suc point i d more) ∙ ap (λ (m : ℕ). take m point) (sym (add-one i)));
+      }
+
+  pub all-fixed : (l : List C) (n i : ℕ) → Fixed l n i → length point ≤ i → take n l ≡ folded N point vs
+  all-fixed l n i h all = h .holds ∙ ap (λ (xs : List C). folded N xs vs) (take-all i point all)

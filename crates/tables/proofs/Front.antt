@@ -1,0 +1,35 @@
+-- Lists at the front of a table: one entry more, all of them, and a front that was lent and written over.
+-- Assumes nothing.
+use mathlib.Core.Path.{_≡_, sym, ap, _∙_}
+use mathlib.Core.List.{List, [], _∷_, _++_, append-assoc}
+use Prim.Native.Nat.{ℕ, _+_, _≤_, _<_}
+use native.Mathlib.Numerals.{add-one}
+use native.Mathlib.Omega.{arith}
+use lib.ListN.{length, take, drop, getD, set}
+use lib.Seq.{length-take-le, length-front, take-append-seam, take-suc, take-suc-set}
+use Rattle.lists.specs.Buffer.{over}
+use Rattle.lists.proofs.Buffer.{length-over}
+use Rattle.tables.specs.Table.{maxWidth, Table}
+
+pub place-next : {A : Type 0} (vs l : List A) (i : ℕ) (d : A) → i < length vs → i < length l → take i l ≡ take i vs
+    → take (i + 1) (set l i (getD vs i d)) ≡ take (i + 1) vs
+place-next {A} vs l i d h h′ e =
+    rw (add-one i) (take-suc-set l i (getD vs i d) h′ ∙ ap (λ (t : List A). t ++ (getD vs i d ∷ [])) e ∙ sym (take-suc vs i d h))
+
+pub table : (vs l : List ℕ) (n : ℕ) → length l ≡ maxWidth → n ≤ maxWidth → take n l ≡ vs → Table vs l
+table vs l n size h e =
+    let count : length vs ≡ n = ap length (sym e) ∙ length-take-le n l (omega arith) in
+    record { size = size; holds = ap (λ (k : ℕ). take k l) count ∙ e }
+
+-- the first n words of a list, lent, written over and put back
+module _ {A : Type 0} (l part ms : List A) (n : ℕ) (e : part ≡ over ms (take n l)) where
+  pub length-back : length ms ≤ n → n ≤ length l → length (part ++ drop n l) ≡ length l
+  length-back h h′ =
+      let size : length (take n l) ≡ n = length-take-le n l h′ in
+      length-front l part n (ap length e ∙ length-over ms (take n l) (omega arith))
+
+  pub front-back : take (length ms) (part ++ drop n l) ≡ ms
+  front-back =
+      ap (λ (t : List A). take (length ms) (t ++ drop n l)) e
+      ∙ ap (take (length ms)) (append-assoc ms (drop (length ms) (take n l)) (drop n l))
+      ∙ take-append-seam ms (drop (length ms) (take n l) ++ drop n l)

@@ -1,0 +1,176 @@
+-- The weights of all indices, from the last coordinate on. One turn of the loop within `spread` writes an entry of each half; one turn of
+-- `weights` makes both halves from the weights at the coordinates passed.
+-- Assumes nothing.
+use mathlib.Core.Path.{_≡_, refl, sym, ap, ap₂, _∙_}
+use mathlib.Core.List.{List, [], _∷_, _++_, map, append-assoc, append-nil}
+use Prim.Native.Nat.{ℕ, suc, _+_, _-_, _*_, _/_, _^_, _≤_, _<_}
+use native.Mathlib.Nat.{zero-add, suc-add, sub-self, two-pow-succ, pow-le-pow-right}
+use native.Mathlib.Omega.{arith}
+use lib.ListN.{length, take, drop, getD, set, length-map, length-drop, length-append, take-append-drop, drop-of-length-le, List·getD-append}
+use lib.Seq.{length-take-le, getD-take, set-append-left, drop-cons, drop-drop, take-take}
+use Rattle.lists.specs.Buffer.{over}
+use Rattle.lists.proofs.Buffer.{over-next, over-all, length-over, getD-over-after}
+use Rattle.lists.proofs.Map.{getD-map-lt}
+use Rattle.algebra.specs.Numbers.{Numbers}
+use Rattle.multilinear.specs.Tables.{weights}
+use Rattle.multilinear.proofs.Tables.{length-weights}
+use Rattle.tables.specs.Table.{maxWidth, spread}
+use Rattle.tables.proofs.Front.{length-back, front-back}
+
+weights-more : {C : Type 0} (N : Numbers C) (z : C) (zs : List C) → weights N (z ∷ zs) ≡ spread N z (weights N zs)
+unfolding weights spread
+weights-more N z zs = refl
+
+-- a word stored behind a list's front
+set-append-add : {A : Type 0} (xs ys : List A) (i : ℕ) (a : A) → set (xs ++ ys) (length xs + i) a ≡ xs ++ set ys i a
+set-append-add [] ys i a = ap (λ (n : ℕ). set ys n a) (zero-add i)
+set-append-add (x ∷ xs) ys i a =
+    ap (λ (n : ℕ). set (x ∷ (xs ++ ys)) n a) (suc-add (length xs) i) ∙ ap (λ t. x ∷ t) (set-append-add xs ys i a)
+
+module _ {C : Type 0} (N : Numbers C) (z : C) (t₀ : List C) where
+  abbrev half : ℕ
+  half = length t₀ / 2
+
+  abbrev low : List C
+  low = map (λ w. N .mul (N .sub (N .𝟙) z) w) (take half t₀)
+
+  abbrev high : List C
+  high = map (λ w. N .mul z w) (take half t₀)
+
+  length-front : length (take half t₀) ≡ half
+  length-front = length-take-le half t₀ (omega arith)
+
+  length-low : length low ≡ half
+  length-low = length-map (take half t₀) (λ w. N .mul (N .sub (N .𝟙) z) w) ∙ length-front
+
+  length-high : length high ≡ half
+  length-high = length-map (take half t₀) (λ w. N .mul z w) ∙ length-front
+
+  -- b entries of each half stand
+  abbrev lows : ℕ → List C
+  lows b = over (take b low) (take half t₀)
+
+  abbrev highs : ℕ → List C
+  highs b = over (take b high) (drop half t₀)
+
+  length-lows : (b : ℕ) → b ≤ half → length (lows b) ≡ half
+  length-lows b h =
+      let size : length (take b low) ≡ b = length-take-le b low (omega (arith, length-low)) in
+      length-over (take b low) (take half t₀) (omega (arith, length-front)) ∙ length-front
+
+  -- the entry that both are made of is not yet written over
+  entry : (b : ℕ) (d : C) → b < half → getD (lows b ++ highs b) b d ≡ getD t₀ b d
+  entry b d h =
+      let size : length (take b low) ≡ b = length-take-le b low (omega (arith, length-low)) in
+      List·getD-append (lows b) (highs b) d b (omega (arith, length-lows b (omega arith)))
+      ∙ getD-over-after (take b low) (take half t₀) b d (omega arith) ∙ getD-take half t₀ b d h
+
+  pub record Spread (t : List C) (b : ℕ) : Type 0 where
+    pub within : b ≤ half
+    pub written : t ≡ lows b ++ highs b
+
+  pub start : Spread t₀ 0
+  start = record { within = omega arith; written = sym (take-append-drop half t₀) }
+
+  module _ (b : ℕ) (d : C) (h : b < half) where
+    scaled : (c : C) → N .mul c (getD t₀ b d) ≡ getD (map (λ w. N .mul c w) (take half t₀)) b d
+    scaled c =
+        sym (getD-map-lt (λ w. N .mul c w) (take half t₀) b d d (omega (arith, length-front)) ∙ ap (N .mul c) (getD-take half t₀ b d h))
+
+    next-low : set (lows b) b (N .mul (N .sub (N .𝟙) z) (getD t₀ b d)) ≡ lows (b + 1)
+    next-low =
+        ap (set (lows b) b) (scaled (N .sub (N .𝟙) z))
+        ∙ over-next low (take half t₀) b d (omega (arith, length-low)) (omega (arith, length-low, length-front))
+
+    next-high : set (highs b) b (N .mul z (getD t₀ b d)) ≡ highs (b + 1)
+    next-high =
+        ap (set (highs b) b) (scaled z)
+        ∙ over-next high (drop half t₀) b d (omega (arith, length-high)) (omega (arith, length-high, length-drop half t₀))
+
+  pub step : (t : List C) (b : ℕ) (d x y : C) → Spread t b → b < half → x ≡ N .mul z (getD t b d)
+      → y ≡ N .mul (N .sub (N .𝟙) z) (getD t b d) → Spread (set (set t (half + b) x) b y) (b + 1)
+  step t b d x y h more ex ey =
+      let size : length (lows b) ≡ half = length-lows b (omega arith) in
+      let same : getD t b d ≡ getD t₀ b d = ap (λ (l : List C). getD l b d) (h .written) ∙ entry b d more in
+      let ex′ : x ≡ N .mul z (getD t₀ b d) = ex ∙ ap (N .mul z) same in
+      let ey′ : y ≡ N .mul (N .sub (N .𝟙) z) (getD t₀ b d) = ey ∙ ap (N .mul (N .sub (N .𝟙) z)) same in
+      record {
+        within = omega arith;
+        written = ap (λ (l : List C). set (set l (half + b) x) b y) (h .written)
+            ∙ ap (λ (n : ℕ). set (set (lows b ++ highs b) (n + b) x) b y) (sym size)
+            ∙ ap (λ (l : List C). set l b y) (set-append-add (lows b) (highs b) b x)
+            ∙ set-append-left (lows b) (set (highs b) b x) b y (omega arith)
+            ∙ ap₂ (λ (l m : List C). l ++ m) (ap (set (lows b) b) ey′ ∙ next-low b d more) (ap (set (highs b) b) ex′ ∙ next-high b d more);
+      }
+
+  pub end : (t : List C) (b : ℕ) → Spread t b → half ≤ b → t ≡ over (spread N z (take half t₀)) t₀
+  unfolding spread
+  end t b h all =
+      let el = length-low in
+      let eh = length-high in
+      let none : drop (length low) (take half t₀) ≡ [] = drop-of-length-le (take half t₀) {i = length low} (omega (arith, length-front)) in
+      let far : half + length high ≡ length (low ++ high) = sym (length-append low high ∙ ap (λ (n : ℕ). n + length high) el) in
+      h .written
+      ∙ ap₂ (λ (l m : List C). l ++ m) (over-all low (take half t₀) b (omega arith)) (over-all high (drop half t₀) b (omega arith))
+      ∙ ap₂ (λ (l m : List C). (low ++ l) ++ (high ++ m)) none (drop-drop (length high) half t₀ ∙ ap (λ (n : ℕ). drop n t₀) far)
+      ∙ ap (λ (l : List C). l ++ (high ++ drop (length (low ++ high)) t₀)) (append-nil low)
+      ∙ sym (append-assoc low high (drop (length (low ++ high)) t₀))
+
+-- the weights at the coordinates of a point from `left` on, at the front of a table
+module _ {C : Type 0} (N : Numbers C) (point : List C) where
+  pub record Weighed (l : List C) (n left : ℕ) : Type 0 where
+    pub reached : left ≤ length point
+    pub few : length point ≤ 8
+    pub count : n ≡ 2 ^ (length point - left)
+    pub size : length l ≡ maxWidth
+    pub holds : take n l ≡ weights N (drop left point)
+
+  pub none-weighed : (l : List C) (left : ℕ) → length point ≤ 8 → left ≡ length point → length l ≡ maxWidth → take 1 l ≡ N .𝟙 ∷ []
+      → Weighed l 1 left
+  unfolding weights
+  none-weighed l left few e size h = record {
+    reached = omega arith;
+    few = few;
+    count = ap (λ (k : ℕ). 2 ^ k) (sym (sub-self (length point)) ∙ ap (λ (k : ℕ). length point - k) (sym e));
+    size = size;
+    holds = h ∙ sym (ap (weights N) (drop-of-length-le point {i = left} (omega arith)));
+  }
+
+  pub few-weights : (l : List C) (n left k : ℕ) → Weighed l n left → length point - left ≤ k → n ≤ 2 ^ k
+  few-weights l n left k h le =
+      let bound : 2 ^ (length point - left) ≤ 2 ^ k = pow-le-pow-right (omega arith) le in omega (arith, h .count)
+
+  -- twice as many weights fit
+  pub room : (l : List C) (n left : ℕ) → Weighed l n left → 0 < left → 2 * n ≤ maxWidth
+  room l n left h more = let few = h .few in omega (arith, few-weights l n left 7 h (omega arith))
+
+  pub weigh-next : (l part : List C) (n left : ℕ) (d z : C) → Weighed l n left → 0 < left → z ≡ getD point (left - 1) d
+      → part ≡ over (spread N z (take (length (take (2 * n) l) / 2) (take (2 * n) l))) (take (2 * n) l)
+      → Weighed (part ++ drop (2 * n) l) (2 * n) (left - 1)
+  weigh-next l part n left d z h more ez e =
+      let fits = room l n left h more in
+      let size = h .size in
+      let reached = h .reached in
+      let again : suc (left - 1) ≡ left = omega arith in
+      let longer : length point - (left - 1) ≡ suc (length point - left) = omega arith in
+      let twice : 2 * n ≡ 2 ^ (length point - (left - 1)) =
+      ap (λ (m : ℕ). 2 * m) (h .count) ∙ sym (ap (λ (k : ℕ). 2 ^ k) longer ∙ two-pow-succ (length point - left) ∙ omega arith) in
+      let lent : length (take (2 * n) l) / 2 ≡ n = ap (λ (m : ℕ). m / 2) (length-take-le (2 * n) l (omega arith)) ∙ omega arith in
+      let before : take (length (take (2 * n) l) / 2) (take (2 * n) l) ≡ weights N (drop left point) =
+      ap (λ (m : ℕ). take m (take (2 * n) l)) lent ∙ take-take n (2 * n) l (omega arith) ∙ h .holds in
+      let ws : List C = spread N z (take (length (take (2 * n) l) / 2) (take (2 * n) l)) in
+      let made : ws ≡ weights N (drop (left - 1) point) =
+      ap₂ (spread N) ez before ∙ sym (ap (weights N) (drop-cons point (left - 1) d (omega arith)
+      ∙ ap (λ (k : ℕ). getD point (left - 1) d ∷ drop k point) again) ∙ weights-more N (getD point (left - 1) d) (drop left point)) in
+      let all : length ws ≡ 2 * n =
+      ap length made ∙ length-weights N (drop (left - 1) point) ∙ ap (λ (k : ℕ). 2 ^ k) (length-drop (left - 1) point) ∙ sym twice in
+      record {
+        reached = omega arith;
+        few = h .few;
+        count = twice;
+        size = length-back l part ws (2 * n) e (omega arith) (omega arith) ∙ size;
+        holds = ap (λ (m : ℕ). take m (part ++ drop (2 * n) l)) (sym all) ∙ front-back l part ws (2 * n) e ∙ made;
+      }
+
+  pub all-weighed : (l : List C) (n left : ℕ) → Weighed l n left → left ≡ 0 → take n l ≡ weights N point
+  all-weighed l n left h none = h .holds ∙ ap (λ (k : ℕ). weights N (drop k point)) none

@@ -1,0 +1,101 @@
+-- `folded` meets its contract. The loop keeps `Fixed`: at the front stand the values with their first i variables fixed.
+-- Assumes nothing.
+use borrow.Author.Needs.{needs}
+use Prim.Native.Nat.{ℕ, _-_}
+use native.Mathlib.Omega.{arith}
+use mathlib.Core.Path.{_≡_, refl, sym, ap, _∙_}
+use lib.ListN.{length, take, getD}
+use lib.Seq.{length-take-le, getD-take}
+use Rattle.lists.proofs.Parts.{length-most}
+use Rattle.field.specs.Modulus.{numbers}
+use Rattle.tables.specs.Table.{maxWidth}
+use Rattle.tables.proofs.Front.{table}
+use Rattle.tables.proofs.Folding.{Fixed, none-fixed, fix-next, all-fixed}
+use Rattle.tables.proofs.folded.Statement.{statement}
+use Rattle.tables.proofs.folded.Tie as tie
+
+abbrev Inv-loop : tie.InvT-loop
+Inv-loop f values k row table₀ n₀ i₀ i-end table n i = Fixed (numbers f) (take k row) (take maxWidth values) table n i
+
+abbrev μ-loop : tie.MeasureT-loop
+μ-loop f values k row table₀ n₀ i₀ i-end table n i = i-end - i
+
+placed-requires : tie.Need-placed-requires Inv-loop μ-loop
+placed-requires c κs = search needs
+
+least-requires : tie.Need-least-requires Inv-loop μ-loop
+least-requires c κs = search needs
+
+least-requires-2 : tie.Need-least-requires-2 Inv-loop μ-loop
+least-requires-2 c κs = search needs
+
+loop-holds : tie.Need-loop-holds Inv-loop μ-loop
+loop-holds c =
+    let values = c .before .before .before .before .args .values .now in
+    let placed = c .before .before .placed .ensures in
+    let count : c .before .least .result ≡ length (take maxWidth values) = length-most maxWidth _ _ values refl (c .before .least .ensures) in
+    none-fixed _ _ _ _ (c .before .least .result) (omega (arith, c .before .least .ensures)) (placed .size)
+    (ap (λ (n : ℕ). take n (c .before .before .placed .result)) count ∙ placed .holds)
+
+array-borrow-prefix-table : tie.Need-array-borrow-prefix-table Inv-loop μ-loop
+array-borrow-prefix-table c = search needs
+
+slice-aggregate-fold : tie.Need-slice-aggregate-fold Inv-loop μ-loop
+slice-aggregate-fold c =
+    let at = c .before .before in
+    sym (length-take-le (at .loop .n) (at .loop .table) (omega (arith, at .loop .inv .within, at .loop .inv .size)))
+
+mul-fold : tie.Need-mul-fold Inv-loop μ-loop
+mul-fold c = search needs
+
+array-read-fold : tie.Need-array-read-fold Inv-loop μ-loop
+array-read-fold c = search needs
+
+fold-requires : tie.Need-fold-requires Inv-loop μ-loop
+fold-requires c κs = search needs
+
+add-i : tie.Need-add-i Inv-loop μ-loop
+add-i c = search needs
+
+loop-less : tie.Need-loop-less Inv-loop μ-loop
+loop-less c = search needs
+
+loop-again : tie.Need-loop-again Inv-loop μ-loop
+loop-again c =
+    let at = c .before .before .before .before in
+    let start = at .before .before .before .before .before in
+    let i = at .loop .i in
+    let row = start .args .t3 in
+    let k = start .args .k in
+    let least = at .before .least2 .ensures in
+    let count = length-most k 8 _ row (search needs) least in
+    fix-next _ _ _ (at .loop .table) (c .before .fold .last .1 .0) (at .loop .n) i 0 (getD row i 0) (at .loop .inv) (search needs)
+    (sym (getD-take k row i 0 (search needs))) (c .before .fold .ensures)
+
+returns : tie.Need-returns Inv-loop μ-loop
+returns c =
+    let at = c .before in
+    let start = at .before .before .before .before .before in
+    let count = length-most (start .args .k) 8 _ (start .args .t3) (search needs) (at .before .least2 .ensures) in
+    table _ _ (at .loop .n) (at .loop .inv .size) (at .loop .inv .within)
+    (all-fixed _ _ _ _ _ (at .loop .i) (at .loop .inv) (search needs))
+
+pub folded-spec : {M : Type 1} → statement M
+folded-spec =
+    tie.close
+    (tie.spec
+    Inv-loop
+    μ-loop
+    placed-requires
+    least-requires
+    least-requires-2
+    loop-holds
+    array-borrow-prefix-table
+    slice-aggregate-fold
+    mul-fold
+    array-read-fold
+    fold-requires
+    add-i
+    loop-less
+    loop-again
+    returns)

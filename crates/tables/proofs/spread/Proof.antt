@@ -1,0 +1,110 @@
+-- `spread` meets its contract. The loop keeps `Spread`: b entries of each half are written, and the others are as they were.
+-- Assumes nothing.
+use borrow.Author.Needs.{needs}
+use Prim.Native.Nat.{ℕ, _-_, _%_}
+use mathlib.Core.Path.{_≡_, refl, ap, _∙_}
+use lib.ListN.{length, length-set}
+use lib.Seq.{lt-length-set}
+use Rattle.field.specs.Modulus.{modulus, numbers}
+use Rattle.field.proofs.Word.{by-residue}
+use Rattle.tables.proofs.Spreading.{Spread, start, step, end}
+use Rattle.tables.proofs.spread.Statement.{statement}
+use Rattle.tables.proofs.spread.Tie as tie
+
+abbrev Inv-loop : tie.InvT-loop
+Inv-loop f table₀ z half low high b₀ table b = (Spread (numbers f) z table₀ table b) × (length table ≡ length table₀)
+
+abbrev μ-loop : tie.MeasureT-loop
+μ-loop f table₀ z half low high b₀ table b = half - b
+
+sub-requires : tie.Need-sub-requires Inv-loop μ-loop
+sub-requires c κs = search needs
+
+multiplier-requires : tie.Need-multiplier-requires Inv-loop μ-loop
+multiplier-requires c κs = search needs
+
+multiplier-requires-2 : tie.Need-multiplier-requires-2 Inv-loop μ-loop
+multiplier-requires-2 c κs = search needs
+
+loop-holds : tie.Need-loop-holds Inv-loop μ-loop
+loop-holds c = (start _ _ _, refl)
+
+mul-weight : tie.Need-mul-weight Inv-loop μ-loop
+mul-weight c = search needs
+
+slice-read-weight : tie.Need-slice-read-weight Inv-loop μ-loop
+slice-read-weight c = search needs
+
+times-requires : tie.Need-times-requires Inv-loop μ-loop
+times-requires c κs = search needs
+
+add-table : tie.Need-add-table Inv-loop μ-loop
+add-table c = search needs
+
+mul-table : tie.Need-mul-table Inv-loop μ-loop
+mul-table c = search needs
+
+slice-write-table : tie.Need-slice-write-table Inv-loop μ-loop
+slice-write-table c = search needs
+
+times-requires-2 : tie.Need-times-requires-2 Inv-loop μ-loop
+times-requires-2 c κs = search needs
+
+mul-table-2 : tie.Need-mul-table-2 Inv-loop μ-loop
+mul-table-2 c = search needs
+
+slice-write-table-2 : tie.Need-slice-write-table-2 Inv-loop μ-loop
+slice-write-table-2 c =
+    let at = c .before .before .before .before in
+    lt-length-set (at .loop .table) _ (c .before .times .result) (search needs)
+
+add-b : tie.Need-add-b Inv-loop μ-loop
+add-b c = search needs
+
+loop-less : tie.Need-loop-less Inv-loop μ-loop
+loop-less c = search needs
+
+loop-again : tie.Need-loop-again Inv-loop μ-loop
+loop-again c =
+    let at = c .before .before .before .before in
+    let made = at .before in
+    let args = made .before .before .before .before .args in
+    let p : ℕ = modulus (args .f) in (
+      step _ _ _ _ (at .loop .b) 0 _ _ (at .loop .inv .0) (search needs)
+          (c .before .times .ensures ∙ by-residue p (args .z) _ _ (made .multiplier2 .ensures))
+          (c .times2 .ensures
+          ∙ by-residue p (numbers (args .f) .sub 1 (args .z)) _ _
+          (made .before .multiplier .ensures ∙ ap (λ (n : ℕ). n % p) (made .before .before .sub .ensures))),
+      simp length-set (at .loop .inv .1),
+    )
+
+same-length : tie.Need-same-length Inv-loop μ-loop
+same-length c = search needs
+
+returns : tie.Need-returns Inv-loop μ-loop
+returns c = end _ _ _ _ (c .before .loop .b) (c .before .loop .inv .0) (search needs)
+
+pub spread-spec : {M : Type 1} → statement M
+spread-spec =
+    tie.close
+    (tie.spec
+    Inv-loop
+    μ-loop
+    sub-requires
+    multiplier-requires
+    multiplier-requires-2
+    loop-holds
+    mul-weight
+    slice-read-weight
+    times-requires
+    add-table
+    mul-table
+    slice-write-table
+    times-requires-2
+    mul-table-2
+    slice-write-table-2
+    add-b
+    loop-less
+    loop-again
+    same-length
+    returns)

@@ -1,0 +1,105 @@
+-- `weights` meets its contract. The loop keeps `Weighed`: at the front stand the weights at the coordinates passed, from the last on.
+-- Assumes nothing.
+use borrow.Author.Needs.{needs}
+use Prim.Native.Nat.{_-_, _*_}
+use native.Mathlib.Omega.{arith}
+use mathlib.Core.Path.{_≡_, refl, sym}
+use lib.ListN.{length, take, getD, length-take}
+use lib.Seq.{length-take-le, getD-take}
+use Rattle.lists.proofs.Parts.{length-most}
+use Rattle.field.specs.Modulus.{numbers}
+use Rattle.tables.proofs.Front.{table}
+use Rattle.tables.proofs.Spreading.{Weighed, none-weighed, few-weights, room, weigh-next, all-weighed}
+use Rattle.tables.proofs.weights.Statement.{statement}
+use Rattle.tables.proofs.weights.Tie as tie
+
+abbrev Inv-loop : tie.InvT-loop
+Inv-loop f k row table₀ n₀ left₀ table n left = Weighed (numbers f) (take k row) table n left
+
+abbrev μ-loop : tie.MeasureT-loop
+μ-loop f k row table₀ n₀ left₀ table n left = left
+
+array-write-table : tie.Need-array-write-table Inv-loop μ-loop
+array-write-table c = search needs
+
+least-requires : tie.Need-least-requires Inv-loop μ-loop
+least-requires c κs = search needs
+
+loop-holds : tie.Need-loop-holds Inv-loop μ-loop
+loop-holds c =
+    let start = c .before in
+    let k = start .args .k in
+    let row = start .args .t2 in
+    let least = c .least .ensures in
+    let count : c .least .result ≡ length (take k row) = length-most k 8 _ row (search needs) least in
+    none-weighed _ _ _ (c .least .result) (omega arith) count refl refl
+
+sub-left : tie.Need-sub-left Inv-loop μ-loop
+sub-left c = search needs
+
+mul-n : tie.Need-mul-n Inv-loop μ-loop
+mul-n c =
+    let at = c .before in
+    let fits = room _ _ _ (at .loop .n) (at .loop .left) (at .loop .inv) (search needs) in
+    search needs
+
+array-borrow-prefix-table : tie.Need-array-borrow-prefix-table Inv-loop μ-loop
+array-borrow-prefix-table c =
+    let at = c .before in
+    let fits = room _ _ _ (at .loop .n) (at .loop .left) (at .loop .inv) (search needs) in
+    search needs
+
+slice-aggregate-spread : tie.Need-slice-aggregate-spread Inv-loop μ-loop
+slice-aggregate-spread c =
+    let at = c .before .before in
+    let fits = room _ _ _ (at .loop .n) (at .loop .left) (at .loop .inv) (search needs) in
+    sym (length-take-le (2 * at .loop .n) (at .loop .table) (omega (arith, at .loop .inv .size)))
+
+mul-spread : tie.Need-mul-spread Inv-loop μ-loop
+mul-spread c = search needs
+
+array-read-spread : tie.Need-array-read-spread Inv-loop μ-loop
+array-read-spread c = search needs
+
+spread-requires : tie.Need-spread-requires Inv-loop μ-loop
+spread-requires c κs = search needs
+
+loop-less : tie.Need-loop-less Inv-loop μ-loop
+loop-less c = search needs
+
+loop-again : tie.Need-loop-again Inv-loop μ-loop
+loop-again c =
+    let at = c .before .before .before .before in
+    let start = at .before .before in
+    let row = start .args .t2 in
+    let k = start .args .k in
+    let left = at .loop .left in
+    weigh-next _ _ (at .loop .table) (c .before .spread .last .1 .0) (at .loop .n) left 0 (getD row (left - 1) 0) (at .loop .inv) (search needs)
+    (sym (getD-take k row (left - 1) 0 (omega (arith, length-take k row, at .loop .inv .reached)))) (c .before .spread .ensures)
+
+returns : tie.Need-returns Inv-loop μ-loop
+returns c =
+    let at = c .before in
+    let few = at .loop .inv .few in
+    table _ _ (at .loop .n) (at .loop .inv .size) (few-weights _ _ _ _ (at .loop .left) 8 (at .loop .inv) (omega arith))
+    (all-weighed _ _ _ _ (at .loop .left) (at .loop .inv) (search needs))
+
+pub weights-spec : {M : Type 1} → statement M
+weights-spec =
+    tie.close
+    (tie.spec
+    Inv-loop
+    μ-loop
+    array-write-table
+    least-requires
+    loop-holds
+    sub-left
+    mul-n
+    array-borrow-prefix-table
+    slice-aggregate-spread
+    mul-spread
+    array-read-spread
+    spread-requires
+    loop-less
+    loop-again
+    returns)

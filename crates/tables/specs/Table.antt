@@ -1,0 +1,19 @@
+-- Lists that stand at the front of an array of the widest layer's length.
+-- Assumes nothing.
+use Prim.Native.Nat.{ℕ}
+use mathlib.Core.Path.{_≡_}
+use mathlib.Core.List.{List, _++_, map}
+use lib.ListN.{length, take}
+use Rattle.algebra.specs.Numbers.{Numbers}
+
+-- the gates of the widest layer
+abbrev pub maxWidth : ℕ
+maxWidth = 256
+
+pub record Table (entries table : List ℕ) : Type 0 where
+  pub size : length table ≡ maxWidth
+  pub holds : take (length entries) table ≡ entries
+
+-- the weights at a point with z before it, from those at the point
+unfoldable pub spread : {C : Type 0} → Numbers C → C → List C → List C
+spread N z ws = map (λ w. N .mul (N .sub (N .𝟙) z) w) ws ++ map (λ w. N .mul z w) ws

@@ -1,0 +1,81 @@
+// Tables over the gates of a layer, modulo a field's modulus: the weights of all indices at a point, and values with their first variables
+// fixed. A row's first k words are the point; a k above its length stands for all of it. All of it is right for any words.
+use extension::MAX_COORDINATES;
+use field::Field;
+ghost use mathlib.Core.Path.{_≡_};
+ghost use Prim.Native.Nat.{_/_};
+ghost use lib.ListN.{length, take};
+ghost use Rattle.lists.specs.Buffer.{over};
+ghost use Rattle.field.specs.Modulus.{numbers};
+ghost use Rattle.multilinear.specs.Extension.{fold};
+ghost use Rattle.multilinear.specs.Tables.{weights, folded};
+ghost use Rattle.tables.specs.Table.{maxWidth, Table, spread};
+
+// The gates of the widest layer.
+pub const MAX_WIDTH: usize = 256;
+
+// Puts z before the point whose weights are the first half of a table: its two factors make two halves.
+fn spread(f: Field, table: &mut [u32], z: u32)
+    ensures { λ _. ⌜ now (table .exit) ≡ over (spread (numbers f) z (take (length (now (table .entry)) / 2) (now (table .entry)))) (now (table .entry)) ⌝ }
+{
+    let half = table.len() / 2;
+    let low = f.multiplier(f.sub(Field::ONE, z));
+    let high = f.multiplier(z);
+    for b in 0..half {
+        let weight = table[b];
+        table[half + b] = f.times(high, weight);
+        table[b] = f.times(low, weight);
+    }
+}
+
+// The weights of all indices at the point. The first variable has the highest bit, so the last coordinate comes first.
+pub fn weights(f: Field, row: [u32; MAX_COORDINATES], k: usize) -> [u32; MAX_WIDTH]
+    ensures { λ r. ⌜ Table (weights (numbers f) (take k row)) r ⌝ }
+{
+    let mut table = [0u32; MAX_WIDTH];
+    table[0] = Field::ONE;
+    let mut n = 1;
+    let mut left = lists::least(k, MAX_COORDINATES);
+    while 0 < left {
+        left -= 1;
+        n = 2 * n;
+        spread(f, &mut table[..n], row[left]);
+    }
+    table
+}
+
+// Fixes the first variable of a table at r: its fold is written over the front.
+fn fold(f: Field, table: &mut [u32], r: u32)
+    ensures { λ _. ⌜ now (table .exit) ≡ over (fold (numbers f) r (now (table .entry))) (now (table .entry)) ⌝ }
+{
+    let half = table.len() / 2;
+    let low = f.multiplier(f.sub(Field::ONE, r));
+    let high = f.multiplier(r);
+    for b in 0..half {
+        table[b] = f.add(f.times(low, table[b]), f.times(high, table[half + b]));
+    }
+}
+
+// The values at the front of an array.
+fn placed(values: &[u32]) -> [u32; MAX_WIDTH]
+    ensures { λ r. ⌜ Table (take maxWidth (now (values .entry))) r ⌝ }
+{
+    let mut table = [0u32; MAX_WIDTH];
+    for i in 0..lists::least(MAX_WIDTH, values.len()) {
+        table[i] = values[i];
+    }
+    table
+}
+
+// The values with their first variables fixed at the point. Of more than MAX_WIDTH values the first MAX_WIDTH count.
+pub fn folded(f: Field, values: &[u32], row: [u32; MAX_COORDINATES], k: usize) -> [u32; MAX_WIDTH]
+    ensures { λ r. ⌜ Table (folded (numbers f) (take k row) (take maxWidth (now (values .entry)))) r ⌝ }
+{
+    let mut table = placed(values);
+    let mut n = lists::least(MAX_WIDTH, values.len());
+    for i in 0..lists::least(k, MAX_COORDINATES) {
+        fold(f, &mut table[..n], row[i]);
+        n = n / 2;
+    }
+    table
+}
