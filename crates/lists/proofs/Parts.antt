@@ -14,3 +14,10 @@ take-most (suc n) (x ∷ l) = ap (λ k. take k (x ∷ l)) (suc-min-suc n (length
 
 pub length-most : {A : Type 0} (k m n : ℕ) (l : List A) → length l ≡ m → n ≡ min k m → n ≡ length (take k l)
 length-most k m n l size e = e ∙ ap (min k) (sym size) ∙ sym (length-take k l)
+
+-- to take from a part is to take the fewer of the two
+pub take-least : {A : Type 0} (a b : ℕ) (l : List A) → take (min a b) l ≡ take a (take b l)
+take-least zero b l = ap (λ (n : ℕ). take n l) (zero-min b)
+take-least (suc a) zero l = ap (λ (n : ℕ). take n l) (min-zero (suc a))
+take-least {A} (suc a) (suc b) [] = ap (λ (n : ℕ). take {A = A} n []) (suc-min-suc a b)
+take-least {A} (suc a) (suc b) (x ∷ l) = ap (λ (n : ℕ). take n (x ∷ l)) (suc-min-suc a b) ∙ ap (λ (t : List A). x ∷ t) (take-least a b l)
