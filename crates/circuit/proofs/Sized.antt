@@ -156,6 +156,10 @@ module _ (c : List ℕ) (layer : ℕ) (h : LayerOf c layer) (pos : 0 < layer) wh
 
 -- k_D is word 1 + D
 module _ (c : List ℕ) (h : LegalCircuit c) where
+  -- a legal circuit has D exponents
+  pub deep : length (exponents c) ≡ depth c
+  deep = length-exponents c (depth c) (h .sized .headed)
+
   last-layer : LayerOf c (depth c)
   last-layer = record { headed = h .sized .headed; inside = le-refl (depth c) }
 

@@ -28,6 +28,15 @@ module _ {A : Type 0} where
       let e : length ms + (j - length ms) ≡ j = omega arith in
       subst (λ (k : ℕ). getD (over ms l) k d ≡ getD l k d) e (getD-over-rest ms l (j - length ms) d)
 
+  -- what is written over at least as many words leaves none of those
+  pub over-over : (ms ns l : List A) → length ms ≤ length ns → over ns (over ms l) ≡ over ns l
+  over-over ms ns l h =
+      let n : ℕ = length ns - length ms in
+      let e : length ms + n ≡ length ns = omega arith in
+      ap (λ (t : List A). ns ++ t)
+      (ap (λ (k : ℕ). drop k (over ms l)) (sym e) ∙ sym (drop-drop n (length ms) (over ms l)) ∙ ap (drop n) (drop-over ms l)
+      ∙ drop-drop n (length ms) l ∙ ap (λ (k : ℕ). drop k l) e)
+
   -- one word more, stored directly behind those that stand
   pub over-set : (ms l : List A) (n : ℕ) (x : A) → length ms ≡ n → n < length l
       → set (over ms l) n x ≡ over (ms ++ (x ∷ [])) l

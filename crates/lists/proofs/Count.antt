@@ -11,7 +11,8 @@ use native.Mathlib.Omega.{arith}
 use native.Mathlib.Decide.{ℕ-discrete}
 use lib.Dec.{eqb}
 use borrow.Author.Tests.{eq-eqb, ne-eqb}
-use lib.ListN.{length, length-append, replicate}
+use lib.ListN.{length, length-append, take, getD, replicate}
+use lib.Seq.{take-suc}
 use Rattle.lists.specs.Each.{All, Distinct}
 use Rattle.lists.specs.Count.{sum, one-if, count, range}
 use Rattle.lists.proofs.Each.{all-weaken, all-append, distinct-snoc}
@@ -30,6 +31,11 @@ pub sum-append : (l m : List ℕ) → sum (l ++ m) ≡ sum l + sum m
 unfolding sum
 sum-append [] m = sym (zero-add _)
 sum-append (n ∷ l) m = let ih = sum-append l m in omega arith
+
+pub sum-take : (f : ℕ → ℕ) (l : List ℕ) (i : ℕ) → i < length l → sum (map f (take (suc i) l)) ≡ sum (map f (take i l)) + f (getD l i 0)
+sum-take f l i h =
+    ap (λ (m : List ℕ). sum (map f m)) (take-suc l i 0 h) ∙ ap sum (map-append f (take i l) (getD l i 0 ∷ []))
+    ∙ sum-append (map f (take i l)) (f (getD l i 0) ∷ []) ∙ ap (λ (n : ℕ). sum (map f (take i l)) + n) (sum-cons (f (getD l i 0)) [] ∙ rw sum-nil (add-zero (f (getD l i 0))))
 
 pub sum-replicate : (n d : ℕ) → sum (replicate n d) ≡ n * d
 unfolding sum

@@ -8,8 +8,8 @@ use lib.Dec.{eqb, ltb}
 use lib.ListN.{length}
 use borrow.Author.Tests.{eq-eqb, eqb-true, lt-ltb, ltb-true}
 use Rattle.counting.specs.Coins.{CoinList}
-use Rattle.refusal.specs.Order.{need}
-use Rattle.refusal.proofs.Order.{first-none, need-none}
+use Rattle.refusal.specs.Order.{need, first}
+use Rattle.refusal.proofs.Order.{first-none, need-none, first-more, need-more}
 use Rattle.circuit.specs.Circuit.{primeOf, coinCount, messageWords}
 use Rattle.circuit.specs.Legal.{allBelow, listsCause}
 use Rattle.circuit.proofs.Layers.{all-below, below-all}
@@ -61,6 +61,19 @@ open-large c input y cs e l = rw (e, l) refl
 pub check-large : (c input : List ℕ) (y : ℕ) (cs ms : List ℕ) → listsCause c input ≡ 0 → ltb y (primeOf c) ≡ false → checkAnswer c input y cs ms ≡ 13
 unfolding checkAnswer
 check-large c input y cs ms e l = rw (e, l) refl
+
+-- what refuses an opening refuses the check, and the rest is tried after it
+pub check-opening : (c input : List ℕ) (y : ℕ) (cs ms : List ℕ)
+    → checkAnswer c input y cs ms
+    ≡ first (openCause c input y cs) (need (eqb (length ms) (messageWords c)) 14 (walk (descent c input) (rounds c) [] y ms cs))
+unfolding checkAnswer openCause
+check-opening c input y cs ms =
+    let rest : ℕ = need (eqb (length ms) (messageWords c)) 14 (walk (descent c input) (rounds c) [] y ms cs) in
+    let number = eqb (length cs) (coinCount c) in
+    let small = allBelow (primeOf c) cs in
+    sym (first-more (listsCause c input) (need (ltb y (primeOf c)) 13 (needCoins c cs 0)) rest
+    ∙ ap (first (listsCause c input)) (need-more (ltb y (primeOf c)) 12 (needCoins c cs 0) rest
+    ∙ ap (need (ltb y (primeOf c)) 13) (need-more number 10 (need small 12 0) rest ∙ ap (need number 11) (need-more small 11 0 rest))))
 
 -- once nothing is refused, the walk decides
 pub check-walk : (c input : List ℕ) (y : ℕ) (cs ms : List ℕ) → Opened c input y cs → length ms ≡ messageWords c

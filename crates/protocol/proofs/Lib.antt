@@ -6,3 +6,4 @@ pub mod Descent
 pub mod Check
 pub mod Session
 pub mod Theorems
+pub mod Places

@@ -6,19 +6,19 @@ use mathlib.Core.Path.{_≡_, refl, ap, _∙_}
 use mathlib.Core.List.{List, [], _∷_, _++_}
 use native.Mathlib.Omega.{arith}
 use lib.ListN.{length, length-append, length-drop, take, drop, getD, drop-of-length-le}
-use lib.Seq.{take-suc, take-all, take-append-le, drop-append-le, take-at, getD-at}
+use lib.Seq.{take-all, take-append-le, drop-append-le, take-at, getD-at}
+use Rattle.lists.proofs.Count.{sum-take}
 use Rattle.algebra.specs.Numbers.{words}
 use Rattle.circuit.specs.Circuit.{primeOf, exponents, exponentAt}
 use Rattle.sumcheck.specs.Summand.{linePoint}
-use Rattle.protocol.specs.Rounds.{coinsOf, layerStart}
+use Rattle.protocol.specs.Rounds.{layerStart}
 use Rattle.protocol.specs.Judge.{fixed, lineEnd, pointAt}
-use Rattle.protocol.proofs.Rounds.{coins-append, coins-one}
 
 module _ (c : List ℕ) where
   pub start-next : (l : ℕ) → l < length (exponents c) → layerStart c (suc (suc l)) ≡ layerStart c (suc l) + 2 * exponentAt c (suc l) + 1
   start-next l h =
-      let ks : List ℕ = exponents c in
-      ap coinsOf (take-suc ks l 0 h) ∙ coins-append (take l ks) (getD ks l 0 ∷ []) ∙ ap (λ (n : ℕ). coinsOf (take l ks) + n) (coins-one (getD ks l 0)) ∙ omega arith
+      let next = sum-take (λ k. 2 * k + 1) (exponents c) l h in
+      omega arith
 
   pub fixed-more : (i : ℕ) (past : List ℕ) (t : ℕ) → layerStart c i ≤ length past → fixed c i (past ++ (t ∷ [])) ≡ fixed c i past ++ (t ∷ [])
   fixed-more i past t h = drop-append-le (layerStart c i) past (t ∷ []) h

@@ -23,7 +23,7 @@ use Rattle.circuit.specs.Circuit.{primeOf, depth, exponents, exponentAt, gatesA
 use Rattle.circuit.specs.Legal.{loadAnswer, listsCause}
 use Rattle.circuit.specs.Values.{valuesAt, value}
 use Rattle.circuit.proofs.Loading.{legal-lists}
-use Rattle.circuit.proofs.Sized.{length-exponents}
+use Rattle.circuit.proofs.Sized.{deep}
 use Rattle.circuit.proofs.Layers.{legal-prime, layer-sizes, last-layer, layer-by-layer, wires-below-next, output-layer, value-below}
 use Rattle.sumcheck.specs.Summand.{combined, summand, cube, partialSum}
 use Rattle.sumcheck.proofs.Words.{layer-identity, sum-of-two, sum-message-value, line-message-value, line-ends, sum-message-words, line-message-words}
@@ -68,15 +68,12 @@ module _ (c input : List ℕ) (legal : listsCause c input ≡ 0) where
   pub positive : 0 < primeOf c
   positive = let two : 2 ≤ primeOf c = legal-prime c loaded .two-le in omega arith
 
-  pub deep : length (exponents c) ≡ depth c
-  deep = length-exponents c (depth c) (legal-lists c input legal .circuit .sized .headed)
-
   -- the sum over a layer is the extension of the values above it
   pub layer-sum : (i : ℕ) (z : List ℕ) → i < length (exponents c)
       → partialSum (words (primeOf c)) (exponentAt c (suc i)) (gatesAt c i) z (valuesAt c input (suc i)) []
       ≡ extension (words (primeOf c)) (valuesAt c input i) z
   layer-sum i z n =
-      let shallow : i < depth c = subst (λ (d : ℕ). i < d) deep n in
+      let shallow : i < depth c = subst (λ (d : ℕ). i < d) (deep c (legal-lists c input legal .circuit)) n in
       layer-identity (primeOf c) positive (exponentAt c (suc i)) (gatesAt c i) z (valuesAt c input (suc i))
       (layer-sizes c input legal (suc i) shallow) (wires-below-next c loaded i shallow)
       ∙ ap (λ (vs : List ℕ). extension (words (primeOf c)) vs z) (sym (layer-by-layer c input legal i shallow))
@@ -173,7 +170,7 @@ module _ (c input : List ℕ) (legal : listsCause c input ≡ 0) where
         let k : ℕ = exponentAt c (suc l) in
         let il : isLine c (place (suc l) (2 * k)) ≡ true = eq-eqb (2 * k) (2 * k) refl in
         let el : suc l ≡ length (exponents c) = eqb-true (suc l) (length (exponents c)) (sym (ap (λ (b : Bool). b && eqb (suc l) (length (exponents c))) il) ∙ f) in
-        let last : valuesAt c input (suc l) ≡ input = ap (valuesAt c input) (el ∙ deep) ∙ last-layer c input legal in
+        let last : valuesAt c input (suc l) ≡ input = ap (valuesAt c input) (el ∙ deep c (legal-lists c input legal .circuit)) ∙ last-layer c input legal in
         line-at l t h
         ∙ ap₂ (λ (vs : List ℕ) (n : ℕ). extension (words (primeOf c)) vs (pointAt c (suc n) (past ++ (t ∷ [])))) last el
     next-line l t (r ∷ rs) h f =
@@ -213,7 +210,7 @@ module _ (c input : List ℕ) (legal : listsCause c input ≡ 0) where
 
   -- there is a layer, and before its first round the true claim is the circuit's value
   pub some-layer : 0 < length (exponents c)
-  some-layer = subst (λ (d : ℕ). 0 < d) (sym deep) (legal-lists c input legal .circuit .some)
+  some-layer = subst (λ (d : ℕ). 0 < d) (sym (deep c (legal-lists c input legal .circuit))) (legal-lists c input legal .circuit .some)
 
   pub first-truth : truthAt c input (place 1 0) [] ≡ value c input
   unfolding truthAt

@@ -20,6 +20,17 @@ openCause c input y cs = first (listsCause c input) (need (ltb y (primeOf c)) 13
 abbrev pub openedAt : ℕ → Record Place
 openedAt y = record { round = place 1 0; claim = y; opened = true }
 
+pub data OpenAnswer : Type 0 where
+  opens : Record Place → OpenAnswer
+  refuses : ℕ → OpenAnswer
+
+abbrev pub openedBy : ℕ → ℕ → OpenAnswer
+openedBy zero y = opens (openedAt y)
+openedBy (suc cause) y = refuses (suc cause)
+
+unfoldable pub openAnswer : List ℕ → List ℕ → ℕ → List ℕ → OpenAnswer
+openAnswer c input y cs = openedBy (openCause c input y cs) y
+
 -- "19 the record is ended, its layer or round is outside this circuit, or its claim isn't below p"
 unfoldable pub recordFits : List ℕ → Record Place → Bool
 recordFits c s =

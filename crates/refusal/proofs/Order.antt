@@ -57,3 +57,12 @@ first-none (suc n) rest e = absurd (suc-ne-zero n e)
 pub need-none : (b : Bool) (cause rest : ℕ) → need b (suc cause) rest ≡ 0 → (b ≡ true) × (rest ≡ 0)
 need-none true cause rest e = (refl, e)
 need-none false cause rest e = absurd (suc-ne-zero cause e)
+
+-- more to try after a list of conditions
+pub first-more : (cause more rest : ℕ) → first (first cause more) rest ≡ first cause (first more rest)
+first-more zero more rest = refl
+first-more (suc cause) more rest = refl
+
+pub need-more : (b : Bool) (n more rest : ℕ) → first (need b (suc n) more) rest ≡ need b (suc n) (first more rest)
+need-more true n more rest = refl
+need-more false n more rest = refl

@@ -6,3 +6,4 @@ pub mod Message
 pub mod Words
 pub mod Sides
 pub mod Gatewise
+pub mod Line

@@ -22,6 +22,14 @@ use Rattle.sumcheck.specs.Message.{fit, sumMessage, lineMessage}
 use Rattle.sumcheck.proofs.Hom.{hom-partialSum, hom-linePoint}
 use Rattle.sumcheck.proofs.Degree.{three-coefficients, line-coefficients}
 
+module _ {C : Type 0} (N : Numbers C) where
+  pub length-line : (n : ℕ) (u v : List C) (t : C) → length u ≡ n → length v ≡ n → length (linePoint N u v t) ≡ n
+  unfolding linePoint
+  length-line n [] v t e e′ = e
+  length-line n (x ∷ u) [] t e e′ = e′
+  length-line zero (x ∷ u) (y ∷ v) t e e′ = absurd (omega arith)
+  length-line (suc n) (x ∷ u) (y ∷ v) t e e′ = ap suc (length-line n u v t (suc-inj e) (suc-inj e′))
+
 module _ {C : Type 0} {N : Numbers C} (R : Ring N) where
   open Numbers N using (𝟘, 𝟙, add as _⊕_, sub as _⊖_, mul as _⊗_)
 

@@ -3,7 +3,7 @@
 use mathlib.Core.Path.{_≡_, refl, sym, ap, ap₂, _∙_}
 use mathlib.Core.List.{List, [], _∷_, _++_, map, append-assoc}
 use Prim.Native.Nat.{ℕ, zero, suc, _+_, _-_, _*_, _<_, Fin}
-use native.Mathlib.Nat.{mod-lt, suc-inj}
+use native.Mathlib.Nat.{mod-lt}
 use native.Mathlib.Omega.{arith}
 use lib.ListN.{length, take, drop, length-append, length-map}
 use Rattle.lists.specs.Each.{All}
@@ -25,7 +25,7 @@ use Rattle.sumcheck.proofs.Hom.{hom-layer, hom-partialSum, hom-linePoin
 use Rattle.sumcheck.proofs.Cube.{cube-more, cube-same}
 use Rattle.sumcheck.proofs.Layer.{ring-identity}
 use Rattle.sumcheck.proofs.Degree.{length-fit}
-use Rattle.sumcheck.proofs.Message.{sum-value, line-value, line-zero, line-one}
+use Rattle.sumcheck.proofs.Message.{length-line, sum-value, line-value, line-zero, line-one}
 
 -- BELOW P: a sum over {0, 1} is a sum or one summand, and both are reduced
 module _ (p : ℕ) (pos : 0 < p) where
@@ -118,10 +118,7 @@ sum-of-two p k gs point vs xs h =
         (λ bs l. ap at (sym (append-assoc xs (b ∷ []) bs)))
 
 pub line-point-length : LinePointLength
-unfolding linePoint
-line-point-length p [] v t e = refl
-line-point-length p (x ∷ u) [] t e = absurd (omega arith)
-line-point-length p (x ∷ u) (y ∷ v) t e = ap suc (line-point-length p u v t (suc-inj e))
+line-point-length p u v t e = length-line (words p) (length u) u v t refl (sym e)
 
 -- WHAT HOLDS OF RESIDUES
 pub layer-identity : LayerIdentity

@@ -90,6 +90,7 @@ module _ {C : Type 0} (N : Numbers C) where
 abbrev pub InOrder : {C : Type 0} → ℕ → List C → List C → Type 0
 InOrder k u v = ((length u < k) × (length v ≡ 0)) ⊎ ((length u ≡ k) × (length v < k))
 
+-- on words the pass gives the honest message
 abbrev pub SumByGates : Type 0
 SumByGates =
     (p : ℕ) → Prime p → 3 ≤ p → (k : ℕ) (gs : List Gate) (point vs u v : List ℕ) → length vs ≡ 2 ^ k

@@ -1,4 +1,5 @@
 pub mod Summand
 pub mod Message
+pub mod Line
 pub mod Theorems
 pub mod Gatewise

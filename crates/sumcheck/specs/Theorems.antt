@@ -1,16 +1,18 @@
 -- What this crate proves, on words.
 -- Assumes nothing.
-use Prim.Native.Nat.{ℕ, suc, _+_, _*_, _^_, _<_}
+use Prim.Native.Nat.{ℕ, suc, _+_, _*_, _^_, _≤_, _<_}
 use mathlib.Core.Path.{_≡_}
 use mathlib.Core.List.{List, [], _∷_, _++_, map}
 use lib.ListN.{length}
 use Rattle.lists.specs.Each.{All}
+use Rattle.primes.specs.Prime.{Prime}
 use Rattle.algebra.specs.Numbers.{words}
 use Rattle.algebra.specs.Polynomial.{valueAt}
 use Rattle.multilinear.specs.Extension.{extension}
 use Rattle.circuit.specs.Gate.{Gate, gateValue}
 use Rattle.sumcheck.specs.Summand.{partialSum, linePoint}
 use Rattle.sumcheck.specs.Message.{sumMessage, lineMessage}
+use Rattle.sumcheck.specs.Line.{lineHalving}
 
 -- the extension of the values above is the sum of the summand over {0, 1}, at any point
 abbrev pub LayerIdentity : Type 0
@@ -61,3 +63,9 @@ PartialSumBelow = (p : ℕ) → 0 < p → (k : ℕ) (gs : List Gate) (point vs x
 
 abbrev pub LinePointLength : Type 0
 LinePointLength = (p : ℕ) (u v : List ℕ) (t : ℕ) → length u ≡ length v → length (linePoint (words p) u v t) ≡ length u
+
+-- the coefficients from halves are the honest line message: both have V's values along the line, at no fewer points than coefficients
+abbrev pub LineByHalves : Type 0
+LineByHalves =
+    (p : ℕ) → Prime p → (vs u v : List ℕ) → length u ≡ length v → suc (length u) ≤ p → length vs ≡ 2 ^ length u → All (λ w. w < p) vs
+    → lineHalving (words p) vs u v ≡ lineMessage (words p) vs u v

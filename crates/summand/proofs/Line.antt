@@ -1,4 +1,4 @@
--- Laws of the line between two points: its length, its coordinates, its first coordinates, and the loop that writes it word by word.
+-- Laws of the line between two points: its coordinates, its first coordinates, and the loop that writes it word by word.
 -- Assumes nothing.
 use mathlib.Core.Path.{_≡_, refl, sym, ap, ap₂, _∙_}
 use mathlib.Core.List.{List, [], _∷_, append-nil, _++_}
@@ -9,15 +9,9 @@ use Rattle.lists.specs.Buffer.{over}
 use Rattle.lists.proofs.Buffer.{over-next, over-all}
 use Rattle.algebra.specs.Numbers.{Numbers}
 use Rattle.sumcheck.specs.Summand.{linePoint}
+use Rattle.sumcheck.proofs.Message.{length-line}
 
 module _ {C : Type 0} (N : Numbers C) where
-  pub length-line : (n : ℕ) (u v : List C) (t : C) → length u ≡ n → length v ≡ n → length (linePoint N u v t) ≡ n
-  unfolding linePoint
-  length-line n [] v t e e′ = e
-  length-line n (x ∷ u) [] t e e′ = e′
-  length-line zero (x ∷ u) (y ∷ v) t e e′ = absurd (omega arith)
-  length-line (suc n) (x ∷ u) (y ∷ v) t e e′ = ap suc (length-line n u v t (omega arith) (omega arith))
-
   -- the first coordinates of a line's point are those of the line between the first coordinates
   pub take-line : (k : ℕ) (u v : List C) (t : C) → take k (linePoint N u v t) ≡ linePoint N (take k u) (take k v) t
   unfolding linePoint
@@ -60,7 +54,7 @@ module _ {C : Type 0} (N : Numbers C) where
       let eu = h .length-u in
       let ev = h .length-v in
       let e₀ = h .length-before in
-      let size : length (linePoint N u v t) ≡ n = length-line n u v t eu ev in
+      let size : length (linePoint N u v t) ≡ n = length-line N n u v t eu ev in
       record {
         within = omega arith;
         length-u = eu;
@@ -75,6 +69,6 @@ module _ {C : Type 0} (N : Numbers C) where
   end n u v t line₀ line i h all =
       let e₀ = h .length-before in
       let whole = linePoint N u v t in
-      let size : length whole ≡ n = length-line n u v t (h .length-u) (h .length-v) in
+      let size : length whole ≡ n = length-line N n u v t (h .length-u) (h .length-v) in
       h .drawn ∙ over-all whole line₀ i (omega arith)
       ∙ ap (λ (l : List C). whole ++ l) (drop-of-length-le line₀ {i = length whole} (omega arith)) ∙ append-nil whole

@@ -14,7 +14,7 @@ use Rattle.summand.specs.Gates.{gatesIn}
 use Rattle.summand.proofs.Wires.{gateAt, sumOn, sum-none, sum-step, sum-all}
 use Rattle.sums.specs.declared.Wire.{Wire}
 use Rattle.sums.specs.declared.Counts.{Counts}
-use Rattle.sums.specs.Wire.{Reads, Counted}
+use Rattle.sums.specs.Wire.{Reads, weighed, Counted}
 
 module _ (p : ℕ) where
   abbrev N : Numbers ℕ
@@ -22,8 +22,8 @@ module _ (p : ℕ) where
 
   -- A GATE'S PARTS, by its bit
   pub counted : (kind weight : ℕ) (l r : Wire) (b : Bool) (value squares : ℕ) → l .one || r .one ≡ b
-      → value ≡ N .mul (N .mul weight (N .mul (l .share) (r .share))) (operate N kind (l .own) (r .own))
-      → squares ≡ N .mul (N .mul weight (N .mul (l .share) (r .share))) (N .sub (operate N kind (l .own) (r .own)) (operate N kind (l .other) (r .other)))
+      → value ≡ weighed N weight l r (operate N kind (l .own) (r .own))
+      → squares ≡ weighed N weight l r (N .sub (operate N kind (l .own) (r .own)) (operate N kind (l .other) (r .other)))
       → Counted N kind weight l r record { zeros = cond b (N .𝟘) value; ones = cond b value (N .𝟘); squares = squares }
   counted kind weight l r b value squares e v q = record {
     zeros = ap₂ (λ (t : Bool) (x : ℕ). cond t (N .𝟘) x) (sym e) v;

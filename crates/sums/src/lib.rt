@@ -179,8 +179,8 @@ fn by_points(
 }
 
 // The three coefficients, constant first, of the sum round with `fixed` coordinates fixed, of a layer of 2^k values under the gates. The
-// point has `above` coordinates; the rows of `points` hold the coordinates of u and v. Numbers of coordinates above the length of a row stand
-// for all of it.
+// point is its row's first `above` words, and the rows of `points` hold u and v. A number of coordinates above the length of a row stands
+// for all of it, and of more than MAX_WIDTH values the first MAX_WIDTH count.
 pub fn sum_message(
     f: Field,
     gates: &[u32],

@@ -18,7 +18,7 @@ use Rattle.refusal.proofs.Order.{numbered-suc, refused-first}
 use Rattle.circuit.specs.Circuit.{primeOf, depth, exponents, exponentAt, coinCount}
 use Rattle.circuit.specs.Legal.{allBelow, listsCause}
 use Rattle.circuit.proofs.Loading.{split-true}
-use Rattle.circuit.proofs.Sized.{length-exponents}
+use Rattle.circuit.proofs.Sized.{deep}
 use Rattle.walk.specs.Session.{Answer, refused, Record, ended, stepFinal, stepLast, stepJudge, stepOpen, step}
 use Rattle.protocol.specs.Rounds.{Place, place, coinsOf, layerStart, isLine, coinsBefore, isLast}
 use Rattle.protocol.specs.Judge.{messageAt, judge, inputAgrees, descent}
@@ -26,12 +26,12 @@ use Rattle.protocol.specs.Check.{needCoins}
 use Rattle.protocol.specs.Session.{recordFits, stepCause, stepAfter, stepAnswer}
 use Rattle.protocol.proofs.Points.{start-next}
 use Rattle.protocol.proofs.Rounds.{coins-append}
-use Rattle.verifier.specs.Standing.{AtRound}
+use Rattle.standing.specs.Standing.{AtRound}
 use Rattle.verifier.specs.Answers.{recordOf, verdictOf, Fitting, goesOn, GoesOn, StepsOpen, Steps}
 use Rattle.verifier.specs.declared.Session.{Session}
 use Rattle.verifier.specs.declared.Stepped.{Stepped}
-use Rattle.verifier.proofs.Gates.{exponent-small}
-use Rattle.verifier.proofs.Coins.{start-few}
+use Rattle.standing.proofs.Gates.{exponent-small}
+use Rattle.standing.proofs.Coins.{start-few}
 use Rattle.verifier.proofs.Records.{legal, own, own-layer}
 
 -- the coins of the layers up to here are among all
@@ -48,7 +48,7 @@ module _ (c input cs : List ℕ) (s : Session) (h : Fitting c input cs s) (n : �
 
   own-end : (i : ℕ) → 1 ≤ i → i ≤ depth c → layerStart c (suc i) ≡ layerStart c i + 2 * exponentAt c i + 1
   own-end zero low m = absurd (omega arith)
-  own-end (suc l) low m = start-next c l (omega (arith, length-exponents c (depth c) (legal c input cs s h .sized .headed)))
+  own-end (suc l) low m = start-next c l (omega (arith, deep c (legal c input cs s h)))
 
   pub coin-in : n < coinCount c
   coin-in =

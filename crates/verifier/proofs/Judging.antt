@@ -1,6 +1,6 @@
 -- The judgement of a message, case by case.
 -- Assumes nothing.
-use Prim.Native.Nat.{ℕ, _+_, _*_}
+use Prim.Native.Nat.{ℕ, _*_}
 use mathlib.Core.Path.{_≡_, refl, sym, ap, ap₂, _∙_, subst}
 use mathlib.Core.Bool.{Bool, true, false, cond}
 use mathlib.Core.List.{List}
@@ -11,7 +11,7 @@ use Rattle.circuit.specs.Circuit.{primeOf, exponentAt}
 use Rattle.circuit.specs.Legal.{allBelow}
 use Rattle.protocol.specs.Rounds.{Place, place, isLine}
 use Rattle.protocol.specs.Judge.{fixed, pointAt, lineClaim, messageAt, messageLength, compared, judge}
-use Rattle.verifier.specs.Standing.{AtRound}
+use Rattle.standing.specs.Standing.{AtRound}
 
 -- a round that is its layer's line
 pub at-line : (c : List ℕ) (layer round : ℕ) (past : List ℕ) → AtRound c layer round past → isLine c (place layer round) ≡ true
@@ -29,14 +29,6 @@ module _ (c : List ℕ) (r : Place) where
     pub compared-sum : isLine c r ≡ false → v ≡ words (primeOf c) .add x y → v ≡ compared c (isLine c r) r past m
     unfolding compared
     compared-sum e ev = ev ∙ ap₂ (words (primeOf c) .add) ex ey ∙ ap (λ (b : Bool). compared c b r past m) (sym e)
-
-  pub length-of-line : isLine c r ≡ true → exponentAt c (r .layer) + 1 ≡ messageLength c r
-  unfolding messageLength
-  length-of-line e = rw e refl
-
-  pub length-of-sum : isLine c r ≡ false → 3 ≡ messageLength c r
-  unfolding messageLength
-  length-of-sum e = rw e refl
 
   module _ (past : List ℕ) (claim : ℕ) (m : List ℕ) where
     pub judge-length : ¬ (length m ≡ messageLength c r) → judge c r past claim m ≡ 14

@@ -2,6 +2,7 @@
 -- Assumes nothing.
 use Prim.Native.Nat.{ℕ, suc, _+_, _-_, _^_, _≤_}
 use mathlib.Core.Path.{_≡_, sym, ap, _∙_}
+use mathlib.Core.Bool.{Bool, true, false}
 use mathlib.Core.List.{List}
 use native.Mathlib.Numerals.{add-one}
 use native.Mathlib.Omega.{arith}
@@ -15,20 +16,19 @@ use Rattle.circuit.specs.Circuit.{primeOf, depth, exponents, exponentAt, inputE
 use Rattle.circuit.specs.Sized.{LayerOf, LegalCircuit}
 use Rattle.circuit.proofs.Layers.{all-below}
 use Rattle.circuit.proofs.Loading.{legal-lists}
-use Rattle.circuit.proofs.Sized.{length-exponents}
+use Rattle.circuit.proofs.Sized.{deep}
+use Rattle.walk.specs.Game.{finalCause}
 use Rattle.protocol.specs.Judge.{pointAt, inputAgrees}
 use Rattle.protocol.proofs.Truth.{positive}
-use Rattle.verifier.specs.Standing.{AtLayer, Finished, Row}
-use Rattle.verifier.proofs.Gates.{exponent-small}
-use Rattle.verifier.proofs.Points.{point-length}
-use Rattle.verifier.proofs.Coins.{layer-of, count-all}
+use Rattle.standing.specs.Standing.{AtLayer, Row}
+use Rattle.verifier.specs.Answers.{Finished}
+use Rattle.standing.proofs.Gates.{exponent-small}
+use Rattle.standing.proofs.Points.{point-length}
+use Rattle.standing.proofs.Coins.{layer-of, so-far, sum-start, sum-all, sum-coins}
 
 module _ (c input cs : List ℕ) (h : Finished c input cs) where
   pub legal : LegalCircuit c
   legal = legal-lists c input (h .lists) .circuit
-
-  deep : length (exponents c) ≡ depth c
-  deep = length-exponents c (depth c) (legal .sized .headed)
 
   pub long : 2 + depth c ≤ length c
   long = legal .sized .headed .long
@@ -37,7 +37,7 @@ module _ (c input cs : List ℕ) (h : Finished c input cs) where
   shallow = legal .sized .headed .shallow
 
   pub behind-last : AtLayer c (depth c + 1) cs
-  behind-last = record { legal = legal; first = omega arith; last = omega arith; counted = h .counted ∙ sym (count-all c legal) }
+  behind-last = record { legal = legal; first = omega arith; last = omega arith; counted = h .counted ∙ sym (sum-coins c) ∙ sym (sum-all c 2 legal) ∙ sum-start c (depth c + 1) (so-far c legal) }
 
   pub last-layer : LayerOf c (depth c)
   last-layer = layer-of c legal (depth c) (omega arith)
@@ -61,8 +61,15 @@ module _ (c input cs : List ℕ) (h : Finished c input cs) where
       let p : ℕ = primeOf c in
       let z : List ℕ = pointAt c (depth c + 1) cs in
       let there : take k point ≡ z = ap (λ (n : ℕ). take n point) (ek ∙ sym point-size) ∙ row .holds in
-      let size : length input ≡ 2 ^ length z = lists .sized ∙ ap (λ (n : ℕ). 2 ^ exponentAt c n) deep ∙ ap (λ (n : ℕ). 2 ^ n) (sym point-size) in
-      let last : depth c + 1 ≡ suc (length (exponents c)) = add-one (depth c) ∙ ap suc (sym deep) in
+      let size : length input ≡ 2 ^ length z = lists .sized ∙ ap (λ (n : ℕ). 2 ^ exponentAt c n) (deep c legal) ∙ ap (λ (n : ℕ). 2 ^ n) (sym point-size) in
+      let last : depth c + 1 ≡ suc (length (exponents c)) = add-one (depth c) ∙ ap suc (sym (deep c legal)) in
       ap (λ (v : ℕ). eqb v claim)
       (e ∙ ap (halving (words p) input) there ∙ halving-on-words p (positive c input (h .lists)) input z size (all-below p input (lists .residues))
       ∙ ap (λ (n : ℕ). extension (words p) input (pointAt c n cs)) last)
+
+-- the cause after the last comparison
+pub final-equal : (b : Bool) → b ≡ true → 0 ≡ finalCause b
+final-equal b e = sym (ap finalCause e)
+
+pub final-differs : (b : Bool) → b ≡ false → 18 ≡ finalCause b
+final-differs b e = sym (ap finalCause e)

@@ -12,22 +12,19 @@ use borrow.Author.Tests.{le-leb, lt-leb, leb-true, ltb-true, eq-eqb, ne-eqb}
 use Rattle.circuit.specs.Circuit.{primeOf, depth, exponents, exponentAt}
 use Rattle.circuit.specs.Sized.{LayerOf, LegalCircuit}
 use Rattle.circuit.proofs.Loading.{split-true, legal-lists}
-use Rattle.circuit.proofs.Sized.{length-exponents}
+use Rattle.circuit.proofs.Sized.{deep}
 use Rattle.walk.specs.Session.{accepted, goOn, refused, Record, ended, stepFinal}
 use Rattle.protocol.specs.Rounds.{Place, place, isLine, isLast}
 use Rattle.protocol.specs.Judge.{inputAgrees, descent}
 use Rattle.protocol.specs.Session.{recordFits}
-use Rattle.verifier.specs.Standing.{Finished}
-use Rattle.verifier.specs.Answers.{recordOf, verdictOf, Fitting, goesOn, GoesOn}
+use Rattle.verifier.specs.Answers.{Finished, recordOf, verdictOf, Fitting, goesOn, GoesOn}
 use Rattle.verifier.specs.declared.Session.{Session}
 use Rattle.verifier.specs.declared.Stepped.{Stepped}
-use Rattle.verifier.proofs.Gates.{exponent-small}
-use Rattle.verifier.proofs.Coins.{layer-of}
+use Rattle.standing.specs.Standing.{LayerSoFar}
+use Rattle.standing.proofs.Gates.{exponent-small}
+use Rattle.standing.proofs.Coins.{layer-of}
 
 module _ (c : List ℕ) (h : LegalCircuit c) (s : Record Place) where
-  deep : length (exponents c) ≡ depth c
-  deep = length-exponents c (depth c) (h .sized .headed)
-
   pub fits-closed : s .opened ≡ false → false ≡ recordFits c s
   unfolding recordFits
   fits-closed o = rw o refl
@@ -40,7 +37,7 @@ module _ (c : List ℕ) (h : LegalCircuit c) (s : Record Place) where
     module _ (low : 1 ≤ s .round .layer) where
       pub fits-deep : depth c < s .round .layer → false ≡ recordFits c s
       unfolding recordFits
-      fits-deep l = rw (o, le-leb 1 (s .round .layer) low, lt-leb (s .round .layer) (length (exponents c)) (omega (arith, deep))) refl
+      fits-deep l = rw (o, le-leb 1 (s .round .layer) low, lt-leb (s .round .layer) (length (exponents c)) (omega (arith, deep c h))) refl
 
       module _ (inside : s .round .layer ≤ depth c) where
         pub layer-in : LayerOf c (s .round .layer)
@@ -52,7 +49,7 @@ module _ (c : List ℕ) (h : LegalCircuit c) (s : Record Place) where
             rw (
               o,
               le-leb 1 (s .round .layer) low,
-              le-leb (s .round .layer) (length (exponents c)) (omega (arith, deep)),
+              le-leb (s .round .layer) (length (exponents c)) (omega (arith, deep c h)),
               lt-leb (s .round .round) (2 * exponentAt c (s .round .layer)) l,
             ) refl
 
@@ -62,7 +59,7 @@ module _ (c : List ℕ) (h : LegalCircuit c) (s : Record Place) where
             rw (
               o,
               le-leb 1 (s .round .layer) low,
-              le-leb (s .round .layer) (length (exponents c)) (omega (arith, deep)),
+              le-leb (s .round .layer) (length (exponents c)) (omega (arith, deep c h)),
               le-leb (s .round .round) (2 * exponentAt c (s .round .layer)) l,
             ) refl
 
@@ -85,7 +82,7 @@ module _ (c : List ℕ) (h : LegalCircuit c) (s : Record Place) where
       record {
         opened = a .0;
         low = leb-true 1 (s .round .layer) (b .0);
-        inside = omega (arith, deep, deeper);
+        inside = omega (arith, deep c h, deeper);
         reached = leb-true (s .round .round) (2 * exponentAt c (s .round .layer)) (f .0);
         claim = ltb-true (s .claim) (primeOf c) (f .1);
       }
@@ -104,6 +101,9 @@ module _ (c input cs : List ℕ) (s : Session) (h : Fitting c input cs s) where
   pub own-layer : LayerOf c (s .layer)
   own-layer = layer-of c legal (s .layer) (own .inside)
 
+  pub own-start : LayerSoFar c (s .layer)
+  own-start = let inside = own .inside in record { legal = legal; first = own .low; last = omega arith }
+
   pub small-round : s .round ≤ 16
   small-round = let low = exponent-small c (s .layer) own-layer in let reached = own .reached in omega arith
 
@@ -114,7 +114,7 @@ module _ (c input cs : List ℕ) (s : Session) (h : Fitting c input cs s) where
   finished = record { lists = h .lists; counted = h .counted }
 
   at-end : ¬ (s .layer < depth c) → s .layer ≡ length (exponents c)
-  at-end ne = let inside = own .inside in omega (arith, ne, length-exponents c (depth c) (legal .sized .headed))
+  at-end ne = let inside = own .inside in omega (arith, ne, deep c legal)
 
   module _ (coin y : ℕ) where
     goes : (b : Bool) → isLast c (place (s .layer) (s .round)) ≡ b → (r : Stepped) → verdictOf (r .verdict) ≡ goesOn c input cs s coin y b .0
@@ -137,7 +137,7 @@ module _ (c input cs : List ℕ) (s : Session) (h : Fitting c input cs s) where
     pub goes-layer : isLine c (place (s .layer) (s .round)) ≡ true → s .layer < depth c → (r : Stepped) → verdictOf (r .verdict) ≡ goOn coin
         → recordOf (r .session) ≡ next-at (place (s .layer + 1) 0) → GoesOn c input cs s coin y r
     goes-layer e more r answer after =
-        let ne : ¬ (s .layer ≡ length (exponents c)) = λ (q : s .layer ≡ length (exponents c)). omega (arith, q, more, length-exponents c (depth c) (legal .sized .headed)) in
+        let ne : ¬ (s .layer ≡ length (exponents c)) = λ (q : s .layer ≡ length (exponents c)). omega (arith, q, more, deep c legal) in
         goes false (ap (λ (b : Bool). b && eqb (s .layer) (length (exponents c))) e ∙ ne-eqb (s .layer) (length (exponents c)) ne) r answer
         (after ∙ ap (λ (i : ℕ). next-at (place i 0)) (add-one (s .layer))
         ∙ ap (λ (b : Bool). next-at (cond b (place (suc (s .layer)) 0) (place (s .layer) (suc (s .round))))) (sym e))

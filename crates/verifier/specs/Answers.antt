@@ -1,20 +1,22 @@
--- The answers of the opening and the step, by the case of the code's enums.
+-- The answers of check, opening and step, by the case of the code's enums.
 -- Assumes nothing.
-use Prim.Native.Nat.{ℕ, zero, suc}
+use Prim.Native.Nat.{ℕ}
 use mathlib.Core.Path.{_≡_}
 use mathlib.Core.Bool.{Bool, true, false}
 use mathlib.Core.List.{List}
 use lib.ListN.{length}
 use Rattle.refusal.specs.Number.{numberOf}
-use Rattle.circuit.specs.Circuit.{coinCount}
+use Rattle.circuit.specs.Circuit.{coinCount, messageWords}
 use Rattle.circuit.specs.Legal.{listsCause}
 use Rattle.walk.specs.Session.{Answer, accepted, goOn, refused, Record, stepFinal, step}
 use Rattle.protocol.specs.Rounds.{Place, place, placeAfter, isLast}
 use Rattle.protocol.specs.Judge.{inputAgrees, descent}
-use Rattle.protocol.specs.Session.{openCause, openedAt, recordFits, stepAnswer}
+use Rattle.protocol.specs.Session.{OpenAnswer, opens, refuses, recordFits, stepAnswer}
 use Rattle.verifier.specs.declared.Verdict.{Verdict}
 use Rattle.verifier.specs.declared.Verdict.the-variants as verdict
 use Rattle.verifier.specs.declared.Session.{Session}
+use Rattle.verifier.specs.declared.Outcome.{Outcome}
+use Rattle.verifier.specs.declared.Outcome.the-variants as outcome
 use Rattle.verifier.specs.declared.Opening.{Opening}
 use Rattle.verifier.specs.declared.Opening.the-variants as opening
 use Rattle.verifier.specs.declared.Stepped.{Stepped}
@@ -23,21 +25,25 @@ use Rattle.verifier.specs.declared.Stepped.{Stepped}
 abbrev pub recordOf : Session → Record Place
 recordOf s = record { round = place (s .layer) (s .round); claim = s .claim; opened = s .open }
 
--- OPEN: the record, or a refusal's number
-pub data OpenAnswer : Type 0 where
-  opens : Record Place → OpenAnswer
-  refuses : ℕ → OpenAnswer
+-- CHECK: 0 accepted, else the refusal's number
+abbrev pub outcomeOf : Outcome → ℕ
+outcomeOf outcome.Accepted = 0
+outcomeOf (outcome.Refused cause) = numberOf cause
 
+-- all coins are there: the last comparison can be made
+pub record Finished (c input cs : List ℕ) : Type 0 where
+  pub lists : listsCause c input ≡ 0
+  pub counted : length cs ≡ coinCount c
+
+-- and all message words: the walk can be made
+pub record Counted (c input cs ms : List ℕ) : Type 0 where
+  pub coins : Finished c input cs
+  pub words : length ms ≡ messageWords c
+
+-- OPEN: the record, or a refusal's number
 abbrev pub openingOf : Opening → OpenAnswer
 openingOf (opening.Opened s) = opens (recordOf s)
 openingOf (opening.Refused cause) = refuses (numberOf cause)
-
-abbrev pub openedBy : ℕ → ℕ → OpenAnswer
-openedBy zero y = opens (openedAt y)
-openedBy (suc cause) y = refuses (suc cause)
-
-unfoldable pub openAnswer : List ℕ → List ℕ → ℕ → List ℕ → OpenAnswer
-openAnswer c input y cs = openedBy (openCause c input y cs) y
 
 -- STEP: the answer, and the record after it
 abbrev pub verdictOf : Verdict → Answer

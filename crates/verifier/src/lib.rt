@@ -1,27 +1,32 @@
-// A session: an argued output is checked message by message.
-use extension::MAX_COORDINATES;
+// The check of an argued output, whole and by a session, message by message.
 use field::Field;
 use refusal::Cause;
 use refusal::Checked;
 ghost use mathlib.Core.Path.{_≡_};
-ghost use Prim.Native.Nat.{_+_, _*_, _≤_};
-ghost use lib.ListN.{length};
+ghost use Prim.Native.Nat.{_*_};
+ghost use mathlib.Core.List.{[]};
 ghost use Rattle.refusal.specs.Number.{numberOf, causeOf};
-ghost use Rattle.circuit.specs.Limits.{maxExponent};
-ghost use Rattle.circuit.specs.Circuit.{depth, exponentAt, coinCount};
-ghost use Rattle.circuit.specs.Sized.{LayerOf, LegalCircuit};
-ghost use Rattle.verifier.specs.Standing.{AtLayer, AtRound, Finished, gatesFrom, Row};
-ghost use Rattle.verifier.specs.Answers.{recordOf, openingOf, openAnswer, verdictOf, Fitting, GoesOn, StepsOpen, Steps};
+ghost use Rattle.circuit.specs.Circuit.{exponentAt};
+ghost use Rattle.circuit.specs.Sized.{LegalCircuit};
+ghost use Rattle.standing.specs.Standing.{AtRound};
+ghost use Rattle.verifier.specs.Answers.{outcomeOf, Finished, Counted, recordOf, openingOf, verdictOf, Fitting, GoesOn, StepsOpen, Steps};
+ghost use Rattle.walk.specs.Game.{finalCause, walk};
 ghost use Rattle.walk.specs.Session.{refused, ended};
-ghost use Rattle.protocol.specs.Session.{recordFits};
-ghost use Rattle.protocol.specs.Rounds.{place, layerStart, isLine};
-ghost use Rattle.protocol.specs.Judge.{fixed, pointAt, lineClaim, messageLength, compared, judge, inputAgrees};
-ghost use Rattle.protocol.specs.Check.{needCoins};
+ghost use Rattle.protocol.specs.Session.{openAnswer, recordFits};
+ghost use Rattle.protocol.specs.Rounds.{place, rounds, isLine};
+ghost use Rattle.protocol.specs.Judge.{fixed, pointAt, lineClaim, compared, judge, inputAgrees, descent};
+ghost use Rattle.protocol.specs.Check.{checkAnswer};
 
 // What a step answers.
 pub enum Verdict {
     Accepted,
     GoOn(u32),
+    Refused(Cause),
+}
+
+// What a whole check answers.
+pub enum Outcome {
+    Accepted,
     Refused(Cause),
 }
 
@@ -45,99 +50,22 @@ pub struct Stepped {
     pub session: Session,
 }
 
-// The width exponent of a layer.
-fn exponent(circuit: &[u32], layer: usize) -> u32
-    requires { ⌜ LayerOf (now circuit) layer ⌝ }
-    ensures { λ r. ⌜ r ≡ exponentAt (now (circuit .entry)) layer ⌝ }
-{
-    if layer == 0 {
-        return 0;
-    }
-    circuit[1 + layer]
-}
-
-// Where the gates of a layer start.
-fn gates_from(circuit: &[u32], layer: usize) -> usize
-    requires { ⌜ LegalCircuit (now circuit) × (layer ≤ depth (now circuit)) ⌝ }
-    ensures { λ r. ⌜ r ≡ gatesFrom (now (circuit .entry)) layer ⌝ }
-{
-    let mut count = 0;
-    for i in 0..layer {
-        count += legality::width(exponent(circuit, i));
-    }
-    2 + circuit[1] as usize + 3 * count
-}
-
-// A point's coordinates in a row of eight words.
-fn row(coordinates: &[u32]) -> [u32; MAX_COORDINATES]
-    requires { ⌜ length (now coordinates) ≤ maxExponent ⌝ }
-    ensures { λ r. ⌜ Row (now (coordinates .entry)) r ⌝ }
-{
-    let mut row = [0u32; MAX_COORDINATES];
-    for i in 0..coordinates.len() {
-        row[i] = coordinates[i];
-    }
-    row
-}
-
-// The standing point at a layer, from the coins before it: the end of the line of the layer above.
-fn standing_point(circuit: &[u32], layer: usize, past: &[u32]) -> [u32; MAX_COORDINATES]
-    requires { ⌜ AtLayer (now circuit) layer (now past) ⌝ }
-    ensures { λ r. ⌜ Row (pointAt (now (circuit .entry)) layer (now (past .entry))) r ⌝ }
-{
-    if layer == 1 {
-        return [0u32; MAX_COORDINATES];
-    }
-    let k = exponent(circuit, layer - 1) as usize;
-    let t = past.len() - 1;
-    let v = t - k;
-    let u = v - k;
-    let points = [row(&past[u..v]), row(&past[v..t])];
-    summand::line_point(Field::of(circuit[0]), points, past[t])
-}
-
-// Whether a round is its layer's line.
-fn is_line(circuit: &[u32], layer: usize, round: usize) -> bool
-    requires { ⌜ LayerOf (now circuit) layer ⌝ }
-    ensures { λ r. ⌜ r ≡ isLine (now (circuit .entry)) (place layer round) ⌝ }
-{
-    round == 2 * exponent(circuit, layer) as usize
-}
-
-// The words of a round's message.
-fn message_length(circuit: &[u32], layer: usize, round: usize) -> usize
-    requires { ⌜ LayerOf (now circuit) layer ⌝ }
-    ensures { λ r. ⌜ r ≡ messageLength (now (circuit .entry)) (place layer round) ⌝ }
-{
-    if is_line(circuit, layer, round) {
-        return exponent(circuit, layer) as usize + 1;
-    }
-    3
-}
-
 // The summand at the two points of a layer's line, with x and y for what the line gives at its ends.
 fn line_claim(circuit: &[u32], layer: usize, past: &[u32], x: u32, y: u32) -> u32
     requires { ⌜ AtRound (now circuit) layer (2 * exponentAt (now circuit) layer) (now past) ⌝ }
     ensures { λ r. ⌜ r ≡ lineClaim (now (circuit .entry)) layer (pointAt (now (circuit .entry)) layer (now (past .entry))) (fixed (now (circuit .entry)) layer (now (past .entry))) x y ⌝ }
 {
-    let k = exponent(circuit, layer) as usize;
-    let end = past.len();
-    let v = end - k;
-    let u = v - k;
-    let points = [row(&past[u..v]), row(&past[v..end])];
-    let point = standing_point(circuit, layer, &past[..u]);
-    let above = exponent(circuit, layer - 1);
-    let from = gates_from(circuit, layer - 1);
-    let to = from + 3 * legality::width(above);
-    summand::combined(
-        Field::of(circuit[0]),
-        &circuit[from..to],
-        &point[..above as usize],
-        points,
-        k,
-        x,
-        y,
-    )
+    let round = 2 * standing::exponent(circuit, layer) as usize;
+    let s = standing::at_round(circuit, layer, round, past);
+    let from = s.from;
+    let to = s.to;
+    let above = s.above;
+    let point = s.point;
+    let u = s.u;
+    let v = s.v;
+    let points = [u, v];
+    let f = Field::of(circuit[0]);
+    summand::combined(f, &circuit[from..to], &point[..above], points, s.own, x, y)
 }
 
 // What a message gives that must equal the standing claim.
@@ -148,7 +76,7 @@ fn compared(circuit: &[u32], layer: usize, round: usize, past: &[u32], message: 
     let f = Field::of(circuit[0]);
     let x = polynomial::value_at(f, message, 0);
     let y = polynomial::value_at(f, message, 1);
-    if is_line(circuit, layer, round) {
+    if standing::is_line(circuit, layer, round) {
         return line_claim(circuit, layer, past, x, y);
     }
     f.add(x, y)
@@ -166,7 +94,7 @@ fn judge(
     requires { ⌜ AtRound (now circuit) layer round (now past) ⌝ }
     ensures { λ r. ⌜ causeOf r ≡ judge (now (circuit .entry)) (place layer round) (now (past .entry)) claim (now (message .entry)) ⌝ }
 {
-    if message.len() != message_length(circuit, layer, round) {
+    if message.len() != standing::message_length(circuit, layer, round) {
         return Checked::Refused(Cause::MessageLength);
     }
     if !legality::all_below(message, circuit[0]) {
@@ -175,7 +103,7 @@ fn judge(
     if compared(circuit, layer, round, past, message) == claim {
         return Checked::Legal;
     }
-    if is_line(circuit, layer, round) {
+    if standing::is_line(circuit, layer, round) {
         return Checked::Refused(Cause::LineDiffers);
     }
     Checked::Refused(Cause::RoundDiffers)
@@ -187,43 +115,70 @@ fn input_agrees(circuit: &[u32], input: &[u32], coins: &[u32], claim: u32) -> bo
     ensures { λ r. ⌜ r ≡ inputAgrees (now (circuit .entry)) (now (input .entry)) (now (coins .entry)) claim ⌝ }
 {
     let depth = circuit[1] as usize;
-    let point = standing_point(circuit, depth + 1, coins);
-    let k = exponent(circuit, depth) as usize;
+    let point = standing::standing_point(circuit, depth + 1, coins);
+    let k = standing::exponent(circuit, depth) as usize;
     extension::extend(Field::of(circuit[0]), input, &point[..k]) == claim
 }
 
-// The coins of a legal circuit.
-fn coin_count(circuit: &[u32]) -> usize
-    requires { ⌜ LegalCircuit (now circuit) ⌝ }
-    ensures { λ r. ⌜ r ≡ coinCount (now (circuit .entry)) ⌝ }
+// The answer after the last message.
+fn finish(circuit: &[u32], input: &[u32], coins: &[u32], claim: u32) -> Outcome
+    requires { ⌜ Finished (now circuit) (now input) (now coins) ⌝ }
+    ensures { λ r. ⌜ outcomeOf r ≡ finalCause (inputAgrees (now (circuit .entry)) (now (input .entry)) (now (coins .entry)) claim) ⌝ }
 {
-    coins_before(circuit, circuit[1] as usize + 1)
+    if input_agrees(circuit, input, coins, claim) {
+        return Outcome::Accepted;
+    }
+    Outcome::Refused(Cause::InputDiffers)
 }
 
-// The coins before a layer.
-fn coins_before(circuit: &[u32], layer: usize) -> usize
-    requires { ⌜ LegalCircuit (now circuit) × (1 ≤ layer) × (layer ≤ 1 + depth (now circuit)) ⌝ }
-    ensures { λ r. ⌜ r ≡ layerStart (now (circuit .entry)) layer ⌝ }
+// The walk down the layers, round by round. The first message that earns a refusal stops it.
+fn walk(circuit: &[u32], input: &[u32], output: u32, coins: &[u32], messages: &[u32]) -> Outcome
+    requires { ⌜ Counted (now circuit) (now input) (now coins) (now messages) ⌝ }
+    ensures { λ r. ⌜ outcomeOf r ≡ walk (descent (now (circuit .entry)) (now (input .entry))) (rounds (now (circuit .entry))) [] output (now (messages .entry)) (now (coins .entry)) ⌝ }
 {
-    let mut coins = 0;
-    for i in 1..layer {
-        coins += 2 * exponent(circuit, i) as usize + 1;
+    let f = Field::of(circuit[0]);
+    let depth = circuit[1] as usize;
+    let mut claim = output;
+    let mut layer = 1;
+    let mut n = 0;
+    let mut at = 0;
+    'walk: loop {
+        if depth < layer {
+            break 'walk finish(circuit, input, coins, claim);
+        }
+        for round in 0..2 * standing::exponent(circuit, layer) as usize + 1 {
+            let end = at + standing::message_length(circuit, layer, round);
+            let message = &messages[at..end];
+            let judged = judge(circuit, layer, round, &coins[..n], claim, message);
+            if let Checked::Refused(cause) = judged {
+                break 'walk Outcome::Refused(cause);
+            }
+            claim = polynomial::value_at(f, message, coins[n]);
+            at = end;
+            n += 1;
+        }
+        layer += 1;
     }
-    coins
 }
 
-// The refusals 11 and 12.
-fn check_coins(circuit: &[u32], coins: &[u32]) -> Checked
-    requires { ⌜ LegalCircuit (now circuit) ⌝ }
-    ensures { λ r. ⌜ causeOf r ≡ needCoins (now (circuit .entry)) (now (coins .entry)) 0 ⌝ }
+// Check, whole: 1 to 9, 13, 11, 12, 14, then the walk.
+pub fn check(
+    circuit: &[u32],
+    input: &[u32],
+    output: u32,
+    coins: &[u32],
+    messages: &[u32],
+) -> Outcome
+    ensures { λ r. ⌜ outcomeOf r ≡ checkAnswer (now (circuit .entry)) (now (input .entry)) output (now (coins .entry)) (now (messages .entry)) ⌝ }
 {
-    if coins.len() != coin_count(circuit) {
-        return Checked::Refused(Cause::CoinCount);
+    let opening = open(circuit, input, output, coins);
+    if let Opening::Refused(cause) = opening {
+        return Outcome::Refused(cause);
     }
-    if !legality::all_below(coins, circuit[0]) {
-        return Checked::Refused(Cause::CoinWord);
+    if messages.len() != standing::message_words(circuit) {
+        return Outcome::Refused(Cause::MessageLength);
     }
-    Checked::Legal
+    walk(circuit, input, output, coins, messages)
 }
 
 // Open session: 1 to 9, 13, 11, 12; then layer 1, round 0, and the output as the claim.
@@ -237,7 +192,7 @@ pub fn open(circuit: &[u32], input: &[u32], output: u32, coins: &[u32]) -> Openi
     if circuit[0] <= output {
         return Opening::Refused(Cause::OutputWord);
     }
-    let taken = check_coins(circuit, coins);
+    let taken = standing::check_coins(circuit, coins);
     if let Checked::Refused(cause) = taken {
         return Opening::Refused(cause);
     }
@@ -263,7 +218,7 @@ fn fits(circuit: &[u32], session: Session) -> bool
     if circuit[1] < session.layer {
         return false;
     }
-    if 2 * exponent(circuit, session.layer as usize) < session.round {
+    if 2 * standing::exponent(circuit, session.layer as usize) < session.round {
         return false;
     }
     session.claim < circuit[0]
@@ -303,10 +258,11 @@ fn go_on(
     requires { ⌜ Fitting (now circuit) (now input) (now coins) session ⌝ }
     ensures { λ r. ⌜ GoesOn (now (circuit .entry)) (now (input .entry)) (now (coins .entry)) session coin claim r ⌝ }
 {
-    if !is_line(circuit, session.layer as usize, session.round as usize) {
+    if !standing::is_line(circuit, session.layer as usize, session.round as usize) {
+        let round = session.round + 1;
         let next = Session {
             layer: session.layer,
-            round: session.round + 1,
+            round,
             claim,
             open: true,
         };
@@ -316,8 +272,9 @@ fn go_on(
         };
     }
     if session.layer < circuit[1] {
+        let layer = session.layer + 1;
         let next = Session {
-            layer: session.layer + 1,
+            layer,
             round: 0,
             claim,
             open: true,
@@ -327,15 +284,16 @@ fn go_on(
             session: next,
         };
     }
+    let closed = ended(session);
     if input_agrees(circuit, input, coins, claim) {
         return Stepped {
             verdict: Verdict::Accepted,
-            session: ended(session),
+            session: closed,
         };
     }
     Stepped {
         verdict: Verdict::Refused(Cause::InputDiffers),
-        session: ended(session),
+        session: closed,
     }
 }
 
@@ -352,7 +310,7 @@ fn step_open(
 {
     let layer = session.layer as usize;
     let round = session.round as usize;
-    let n = coins_before(circuit, layer) + round;
+    let n = standing::coins_before(circuit, layer) + round;
     let judged = judge(circuit, layer, round, &coins[..n], session.claim, message);
     if let Checked::Refused(cause) = judged {
         return Stepped {
@@ -379,7 +337,7 @@ pub fn step(
     if let Checked::Refused(cause) = lists {
         return left(session, cause);
     }
-    let taken = check_coins(circuit, coins);
+    let taken = standing::check_coins(circuit, coins);
     if let Checked::Refused(cause) = taken {
         return left(session, cause);
     }

@@ -5,7 +5,7 @@ use mathlib.Core.Path.{subst}
 use native.Mathlib.Omega.{arith}
 use Rattle.circuit.proofs.Loading.{not-true, not-false}
 use Rattle.verifier.specs.Answers.{recordOf}
-use Rattle.verifier.proofs.Gates.{exponent-small}
+use Rattle.standing.proofs.Gates.{exponent-small}
 use Rattle.verifier.proofs.Records.{layer-in, fits-closed, fits-low, fits-deep, fits-far, fits-claim}
 use borrow.Author.Needs.{needs}
 use Rattle.verifier.proofs.fits.Statement.{statement}

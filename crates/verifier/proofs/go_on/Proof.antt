@@ -3,7 +3,7 @@
 use mathlib.Core.Path.{refl, sym, _∙_}
 use native.Mathlib.Omega.{arith}
 use Rattle.circuit.proofs.Loading.{not-true, not-false}
-use Rattle.verifier.proofs.Records.{own-layer, long, small-round, small-layer, goes-round, goes-layer, goes-accepted, goes-refused}
+use Rattle.verifier.proofs.Records.{long, small-round, small-layer, goes-round, goes-layer, goes-accepted, goes-refused}
 use borrow.Author.Needs.{needs}
 use Rattle.verifier.proofs.go_on.Statement.{statement}
 use Rattle.verifier.proofs.go_on.Tie as tie
@@ -15,17 +15,10 @@ cast-is-line-2 : tie.Need-cast-is-line-2
 cast-is-line-2 c = search needs
 
 is-line-requires : tie.Need-is-line-requires
-is-line-requires c κs =
-    let start = c .before .before .before .before .before in
-    let a = start .args in
-    let l = a .circuit .now in
-    let v = a .input .now in
-    let cs = a .coins .now in
-    let s = a .session in
-    own-layer l v cs s (start .pre)
+is-line-requires c κs = search needs
 
-add-t13 : tie.Need-add-t13
-add-t13 c =
+add-round : tie.Need-add-round
+add-round c =
     let start = c .before .before .before .before .before .before .before .before in
     let a = start .args in
     let l = a .circuit .now in
@@ -56,8 +49,8 @@ shared-slice-read-if2 c =
     let big = long l v cs s (start .pre) in
     omega arith
 
-add-t17 : tie.Need-add-t17
-add-t17 c =
+add-layer : tie.Need-add-layer
+add-layer c =
     let start = c .before .before .before .before .before .before .before .before .before .before .before in
     let a = start .args in
     let l = a .circuit .now in
@@ -93,11 +86,8 @@ returns-3 c =
     let cs = a .coins .now in
     let s = a .session in
     let line = c .before .before .before .before .before .before in
-    goes-accepted l v cs s (start .pre) (a .coin) (a .claim) (sym (line .before .is-line .ensures) ∙ not-false (line .if1 .left)) (search needs) _ (c .ended .ensures)
-    (sym (c .before .before .input-agrees .ensures) ∙ search needs) refl
-
-ended-requires-2 : tie.Need-ended-requires-2
-ended-requires-2 c κs = search needs
+    goes-accepted l v cs s (start .pre) (a .coin) (a .claim) (sym (line .before .is-line .ensures) ∙ not-false (line .if1 .left)) (search needs) _ (c .before .before .ended .ensures)
+    (sym (c .before .input-agrees .ensures) ∙ search needs) refl
 
 returns-4 : tie.Need-returns-4
 returns-4 c =
@@ -108,8 +98,8 @@ returns-4 c =
     let cs = a .coins .now in
     let s = a .session in
     let line = c .before .before .before .before .before .before in
-    goes-refused l v cs s (start .pre) (a .coin) (a .claim) (sym (line .before .is-line .ensures) ∙ not-false (line .if1 .left)) (search needs) _ (c .ended2 .ensures)
-    (sym (c .before .before .input-agrees .ensures) ∙ search needs) refl
+    goes-refused l v cs s (start .pre) (a .coin) (a .claim) (sym (line .before .is-line .ensures) ∙ not-false (line .if1 .left)) (search needs) _ (c .before .before .ended .ensures)
+    (sym (c .before .input-agrees .ensures) ∙ search needs) refl
 
 pub go-on-spec : {M : Type 1} → statement M
 go-on-spec =
@@ -118,13 +108,12 @@ go-on-spec =
     cast-is-line
     cast-is-line-2
     is-line-requires
-    add-t13
+    add-round
     returns
     shared-slice-read-if2
-    add-t17
+    add-layer
     returns-2
-    input-agrees-requires
     ended-requires
+    input-agrees-requires
     returns-3
-    ended-requires-2
     returns-4)

@@ -7,7 +7,7 @@ use lib.ListN.{take}
 use Rattle.algebra.specs.Numbers.{words}
 use Rattle.multilinear.specs.Extension.{halving}
 use Rattle.circuit.proofs.Layers.{prime-modulus}
-use Rattle.verifier.proofs.Last.{legal, long, shallow, behind-last, last-layer, front, agrees}
+use Rattle.verifier.proofs.Last.{legal, long, shallow, behind-last, front, agrees}
 use borrow.Author.Needs.{needs}
 use Rattle.verifier.proofs.input_agrees.Statement.{statement}
 use Rattle.verifier.proofs.input_agrees.Tie as tie
@@ -40,20 +40,10 @@ add-standing-point c =
     omega arith
 
 standing-point-requires : tie.Need-standing-point-requires
-standing-point-requires c κs =
-    let start = c .before .before .before .before in
-    let l = start .args .circuit .now in
-    let v = start .args .input .now in
-    let cs = start .args .coins .now in
-    behind-last l v cs (start .pre)
+standing-point-requires c κs = search needs
 
 exponent-requires : tie.Need-exponent-requires
-exponent-requires c κs =
-    let start = c .before .before .before .before .before in
-    let l = start .args .circuit .now in
-    let v = start .args .input .now in
-    let cs = start .args .coins .now in
-    last-layer l v cs (start .pre)
+exponent-requires c κs = search needs
 
 cast-k : tie.Need-cast-k
 cast-k c = search needs
@@ -77,7 +67,7 @@ array-share-prefix-point c =
     let v = start .args .input .now in
     let cs = start .args .coins .now in
     front l v cs (start .pre) (c .before .before .exponent .result) (c .before .before .before .standing-point .result) (c .before .before .exponent .ensures)
-    (c .before .before .before .standing-point .ensures) .0
+    (c .before .before .before .standing-point .ensures (behind-last l v cs (start .pre))) .0
 
 slice-aggregate-extend : tie.Need-slice-aggregate-extend
 slice-aggregate-extend c =
@@ -86,7 +76,7 @@ slice-aggregate-extend c =
     let v = start .args .input .now in
     let cs = start .args .coins .now in
     front l v cs (start .pre) (c .before .before .before .exponent .result) (c .before .before .before .before .standing-point .result) (c .before .before .before .exponent .ensures)
-    (c .before .before .before .before .standing-point .ensures) .1
+    (c .before .before .before .before .standing-point .ensures (behind-last l v cs (start .pre))) .1
 
 extend-requires : tie.Need-extend-requires
 extend-requires c κs = search needs
@@ -100,7 +90,7 @@ returns c =
     let k = c .before .before .before .before .exponent in
     let point = c .before .before .before .before .before .standing-point in
     let f = prime-modulus l (legal l v cs (start .pre)) _ (c .before .before .of .ensures) in
-    agrees l v cs (start .pre) (k .result) (c .extend .result) (start .args .claim) (point .result) (k .ensures) (point .ensures)
+    agrees l v cs (start .pre) (k .result) (c .extend .result) (start .args .claim) (point .result) (k .ensures) (point .ensures (behind-last l v cs (start .pre)))
     (c .extend .ensures ∙ ap (λ (p : ℕ). halving (words p) v (take (k .result) (point .result))) f)
 
 pub input-agrees-spec : {M : Type 1} → statement M

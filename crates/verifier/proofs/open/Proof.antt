@@ -47,15 +47,7 @@ returns-2 c =
     open-output l v (a .output) (a .coins .now) none (c .if1 .taken)
 
 check-coins-requires : tie.Need-check-coins-requires
-check-coins-requires c κs =
-    let told = c .before .before in
-    let at = told .before .before in
-    let a = at .before .before .before .before .args in
-    let l = a .circuit .now in
-    let v = a .input .now in
-    let none = sym (at .check-lists .ensures) ∙ ap causeOf (told .enum-told .given .1) in
-    let legal = legal-lists l v none in
-    legal .circuit
+check-coins-requires c κs = search needs
 
 enum-known-taken : tie.Need-enum-known-taken
 enum-known-taken c = search needs
@@ -70,7 +62,7 @@ returns-3 c =
     let none = sym (at .check-lists .ensures) ∙ ap causeOf (told .enum-told .given .1) in
     let legal = legal-lists l v none in
     let said = c .before .taken .given in
-    open-coins l v (a .output) (a .coins .now) none (search needs) (said .0 .0) (sym (ap causeOf (said .1)) ∙ c .before .before .before .check-coins .ensures)
+    open-coins l v (a .output) (a .coins .now) none (search needs) (said .0 .0) (sym (ap causeOf (said .1)) ∙ c .before .before .before .check-coins .ensures (legal .circuit))
 
 enum-told-2 : tie.Need-enum-told-2
 enum-told-2 c = search needs
@@ -84,7 +76,7 @@ returns-4 c =
     let v = a .input .now in
     let none = sym (at .check-lists .ensures) ∙ ap causeOf (told .enum-told .given .1) in
     let legal = legal-lists l v none in
-    open-opens l v (a .output) (a .coins .now) none (search needs) (sym (ap causeOf (c .enum-told2 .given .1)) ∙ c .before .before .check-coins .ensures)
+    open-opens l v (a .output) (a .coins .now) none (search needs) (sym (ap causeOf (c .enum-told2 .given .1)) ∙ c .before .before .check-coins .ensures (legal .circuit))
 
 pub open-spec : {M : Type 1} → statement M
 open-spec =

@@ -33,16 +33,7 @@ enum-told : tie.Need-enum-told
 enum-told c = search needs
 
 check-coins-requires : tie.Need-check-coins-requires
-check-coins-requires c κs =
-    let start = c .before .before .before .before .before .before .before in
-    let a = start .args in
-    let l = a .circuit .now in
-    let v = a .input .now in
-    let cs = a .coins .now in
-    let s = a .session in
-    let m = a .message .now in
-    let none = sym (c .before .before .check-lists .ensures) ∙ ap causeOf (c .enum-told .given .1) in
-    legal-lists l v none .circuit
+check-coins-requires c κs = search needs
 
 enum-known-taken : tie.Need-enum-known-taken
 enum-known-taken c = search needs
@@ -61,7 +52,7 @@ returns-2 c =
     let m = a .message .now in
     let none = sym (c .before .before .before .before .before .before .before .check-lists .ensures) ∙ ap causeOf (c .before .before .before .before .before .enum-told .given .1) in
     let told = c .before .before .taken .given in
-    left-coins l v cs s m (told .0 .0) _ (c .left2 .ensures .0) (c .left2 .ensures .1) none (sym (ap causeOf (told .1)) ∙ c .before .before .before .before .check-coins .ensures)
+    left-coins l v cs s m (told .0 .0) _ (c .left2 .ensures .0) (c .left2 .ensures .1) none (sym (ap causeOf (told .1)) ∙ c .before .before .before .before .check-coins .ensures (legal-lists l v none .circuit))
 
 enum-told-2 : tie.Need-enum-told-2
 enum-told-2 c = search needs
@@ -91,7 +82,7 @@ returns-3 c =
     let s = a .session in
     let m = a .message .now in
     let none = sym (c .before .before .before .before .before .before .before .before .check-lists .ensures) ∙ ap causeOf (c .before .before .before .before .before .before .enum-told .given .1) in
-    let free = sym (ap causeOf (c .before .before .before .enum-told2 .given .1)) ∙ c .before .before .before .before .before .check-coins .ensures in
+    let free = sym (ap causeOf (c .before .before .before .enum-told2 .given .1)) ∙ c .before .before .before .before .before .check-coins .ensures (legal-lists l v none .circuit) in
     left-record l v cs s m none free _ (c .left3 .ensures .0) (c .left3 .ensures .1) (sym (c .before .before .fits2 .ensures) ∙ not-true (c .before .if1 .taken))
 
 step-open-requires : tie.Need-step-open-requires
@@ -104,7 +95,7 @@ step-open-requires c κs =
     let s = a .session in
     let m = a .message .now in
     let none = sym (c .before .before .before .before .before .before .before .check-lists .ensures) ∙ ap causeOf (c .before .before .before .before .before .enum-told .given .1) in
-    let free = sym (ap causeOf (c .before .before .enum-told2 .given .1)) ∙ c .before .before .before .before .check-coins .ensures in
+    let free = sym (ap causeOf (c .before .before .enum-told2 .given .1)) ∙ c .before .before .before .before .check-coins .ensures (legal-lists l v none .circuit) in
     fitting l v cs s m none free (sym (c .before .fits2 .ensures) ∙ not-false (c .if1 .left))
 
 returns-4 : tie.Need-returns-4
@@ -117,7 +108,7 @@ returns-4 c =
     let s = a .session in
     let m = a .message .now in
     let none = sym (c .before .before .before .before .before .before .before .before .check-lists .ensures) ∙ ap causeOf (c .before .before .before .before .before .before .enum-told .given .1) in
-    let free = sym (ap causeOf (c .before .before .before .enum-told2 .given .1)) ∙ c .before .before .before .before .before .check-coins .ensures in
+    let free = sym (ap causeOf (c .before .before .before .enum-told2 .given .1)) ∙ c .before .before .before .before .before .check-coins .ensures (legal-lists l v none .circuit) in
     steps-open l v cs s m none free (sym (c .before .before .fits2 .ensures) ∙ not-false (c .before .if1 .left)) _ (c .step-open .ensures)
 
 pub step-spec : {M : Type 1} → statement M

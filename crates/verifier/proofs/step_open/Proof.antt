@@ -9,7 +9,7 @@ use Rattle.algebra.specs.Numbers.{words}
 use Rattle.algebra.specs.Polynomial.{valueAt}
 use Rattle.refusal.specs.Number.{causeOf}
 use Rattle.circuit.proofs.Layers.{prime-modulus}
-use Rattle.verifier.proofs.Records.{legal, own, long}
+use Rattle.verifier.proofs.Records.{own-start, legal, own, long}
 use Rattle.verifier.proofs.Coming.{coins-few, coin-inside, at-round, refused-open, passed-open}
 use borrow.Author.Needs.{needs}
 use Rattle.verifier.proofs.step_open.Statement.{statement}
@@ -22,16 +22,7 @@ cast-round : tie.Need-cast-round
 cast-round c = search needs
 
 coins-before-requires : tie.Need-coins-before-requires
-coins-before-requires c κs =
-    let start = c .before .before .before .before .before .before in
-    let a = start .args in
-    let l = a .circuit .now in
-    let v = a .input .now in
-    let cs = a .coins .now in
-    let s = a .session in
-    let o = own l v cs s (start .pre) in
-    let inside = o .inside in
-    (legal l v cs s (start .pre), o .low, omega arith)
+coins-before-requires c κs = search needs
 
 add-n : tie.Need-add-n
 add-n c =
@@ -43,7 +34,7 @@ add-n c =
     let s = a .session in
     let before = c .coins-before in
     let n = before .result + s .round in
-    let en = ap (λ (i : ℕ). i + s .round) (before .ensures) in
+    let en = ap (λ (i : ℕ). i + s .round) (before .ensures (own-start l v cs s (start .pre))) in
     let few = coins-few l v cs s (start .pre) n en in
     omega arith
 
@@ -57,7 +48,7 @@ slice-aggregate-judge c =
     let s = a .session in
     let before = c .before .coins-before in
     let n = before .result + s .round in
-    let en = ap (λ (i : ℕ). i + s .round) (before .ensures) in
+    let en = ap (λ (i : ℕ). i + s .round) (before .ensures (own-start l v cs s (start .pre))) in
     let inside = coin-inside l v cs s (start .pre) n en in
     sym (length-take-le n cs (omega arith))
 
@@ -71,7 +62,7 @@ judge-requires c κs =
     let s = a .session in
     let before = c .before .coins-before in
     let n = before .result + s .round in
-    let en = ap (λ (i : ℕ). i + s .round) (before .ensures) in
+    let en = ap (λ (i : ℕ). i + s .round) (before .ensures (own-start l v cs s (start .pre))) in
     at-round l v cs s (start .pre) n en
 
 enum-known-judged : tie.Need-enum-known-judged
@@ -90,7 +81,7 @@ returns c =
     let s = a .session in
     let before = c .before .before .before .before .before .before .coins-before in
     let n = before .result + s .round in
-    let en = ap (λ (i : ℕ). i + s .round) (before .ensures) in
+    let en = ap (λ (i : ℕ). i + s .round) (before .ensures (own-start l v cs s (start .pre))) in
     let told = c .before .before .judged .given in
     refused-open l v cs s (start .pre) n en (a .message .now) (told .0 .0) (sym (ap causeOf (told .1)) ∙ c .before .before .before .before .judge .ensures) _ refl (c .ended .ensures)
 
@@ -107,7 +98,7 @@ mul-coin c =
     let s = a .session in
     let before = c .before .before .before .before .coins-before in
     let n = before .result + s .round in
-    let en = ap (λ (i : ℕ). i + s .round) (before .ensures) in
+    let en = ap (λ (i : ℕ). i + s .round) (before .ensures (own-start l v cs s (start .pre))) in
     let few = coins-few l v cs s (start .pre) n en in
     omega arith
 
@@ -121,7 +112,7 @@ shared-slice-read-coin c =
     let s = a .session in
     let before = c .before .before .before .before .before .coins-before in
     let n = before .result + s .round in
-    let en = ap (λ (i : ℕ). i + s .round) (before .ensures) in
+    let en = ap (λ (i : ℕ). i + s .round) (before .ensures (own-start l v cs s (start .pre))) in
     let inside = coin-inside l v cs s (start .pre) n en in
     omega arith
 
@@ -135,7 +126,7 @@ shared-slice-read-of c =
     let s = a .session in
     let before = c .before .before .before .before .before .before .coins-before in
     let n = before .result + s .round in
-    let en = ap (λ (i : ℕ). i + s .round) (before .ensures) in
+    let en = ap (λ (i : ℕ). i + s .round) (before .ensures (own-start l v cs s (start .pre))) in
     let big = long l v cs s (start .pre) in
     omega arith
 
@@ -158,7 +149,7 @@ returns-2 c =
     let s = a .session in
     let before = c .before .before .before .before .before .before .before .before .before .coins-before in
     let n = before .result + s .round in
-    let en = ap (λ (i : ℕ). i + s .round) (before .ensures) in
+    let en = ap (λ (i : ℕ). i + s .round) (before .ensures (own-start l v cs s (start .pre))) in
     let told = c .before .before .before .before .before .enum-told .given in
     let judged = c .before .before .before .before .before .before .before .judge in
     let f = prime-modulus l (legal l v cs s (start .pre)) _ (c .before .before .of .ensures) in

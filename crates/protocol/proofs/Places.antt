@@ -1,0 +1,53 @@
+-- The rounds of a circuit, as loops over layers and rounds meet them.
+-- Assumes nothing.
+use Prim.Native.Nat.{ℕ, zero, suc, _+_, _-_, _*_, _<_}
+use mathlib.Core.Path.{_≡_, refl, ap, _∙_}
+use mathlib.Core.List.{List, [], _∷_, _++_}
+use native.Mathlib.Omega.{arith}
+use lib.ListN.{length, drop, drop-of-length-le}
+use lib.Seq.{drop-cons}
+use Rattle.circuit.specs.Circuit.{exponents, exponentAt}
+use Rattle.protocol.specs.Rounds.{Place, place, roundsOf, roundsFrom}
+
+-- m rounds of layer i from round j on
+unfoldable pub some : ℕ → ℕ → ℕ → List Place
+some i j zero = []
+some i j (suc m) = place i j ∷ some i (suc j) m
+
+rounds-some : (i j n : ℕ) → roundsOf i j n ≡ some i j (suc n)
+unfolding roundsOf some
+rounds-some i j zero = refl
+rounds-some i j (suc n) = ap (λ (l : List Place). place i j ∷ l) (rounds-some i (suc j) n)
+
+module _ (c : List ℕ) where
+  -- what is left before layer i
+  abbrev pub before-layer : ℕ → List Place
+  before-layer zero = []
+  before-layer (suc l) = roundsFrom (suc l) (drop l (exponents c))
+
+  -- and before round j of layer i
+  abbrev pub before-round : ℕ → ℕ → List Place
+  before-round i j = some i j (2 * exponentAt c i + 1 - j) ++ before-layer (suc i)
+
+  pub layer-opens : (l : ℕ) → l < length (exponents c) → before-layer (suc l) ≡ before-round (suc l) 0
+  unfolding roundsFrom
+  layer-opens l h =
+      let n : suc (2 * exponentAt c (suc l)) ≡ 2 * exponentAt c (suc l) + 1 - 0 = omega arith in
+      ap (roundsFrom (suc l)) (drop-cons (exponents c) l 0 h)
+      ∙ ap (λ (ps : List Place). ps ++ before-layer (suc (suc l))) (rounds-some (suc l) 0 (2 * exponentAt c (suc l)) ∙ ap (some (suc l) 0) n)
+
+  pub round-opens : (i j : ℕ) → j < 2 * exponentAt c i + 1 → before-round i j ≡ place i j ∷ before-round i (j + 1)
+  unfolding some
+  round-opens i j h =
+      let m : ℕ = 2 * exponentAt c i + 1 - (j + 1) in
+      let e : 2 * exponentAt c i + 1 - j ≡ suc m = omega arith in
+      let s : suc j ≡ j + 1 = omega arith in
+      ap (λ (n : ℕ). some i j n ++ before-layer (suc i)) e ∙ ap (λ (n : ℕ). place i j ∷ (some i n m ++ before-layer (suc i))) s
+
+  pub layer-closes : (i j : ℕ) → 2 * exponentAt c i + 1 ≡ j → before-round i j ≡ before-layer (suc i)
+  unfolding some
+  layer-closes i j h = let e : 2 * exponentAt c i + 1 - j ≡ 0 = omega arith in ap (λ (n : ℕ). some i j n ++ before-layer (suc i)) e
+
+  pub none-left : (l : ℕ) → length (exponents c) ≡ l → before-layer (suc l) ≡ []
+  unfolding roundsFrom
+  none-left l h = ap (roundsFrom (suc l)) (drop-of-length-le (exponents c) {i = l} (omega arith))

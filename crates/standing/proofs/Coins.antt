@@ -1,0 +1,82 @@
+-- Sums over the layers before one, and the refusals of a coin list.
+-- Assumes nothing.
+use Prim.Native.Nat.{ℕ, zero, suc, _+_, _-_, _*_, _≤_, _<_}
+use mathlib.Core.Path.{_≡_, refl, sym, ap, _∙_}
+use mathlib.Core.Bool.{true, false}
+use mathlib.Core.List.{List}
+use native.Mathlib.Nat.{le-refl, le-trans, le-of-lt, mul-le-mul}
+use native.Mathlib.Omega.{arith}
+use lib.ListN.{length, take}
+use lib.Seq.{take-all}
+use borrow.Author.Tests.{eq-eqb, ne-eqb}
+use Rattle.lists.proofs.Count.{sum-nil, sum-take}
+use Rattle.circuit.specs.Circuit.{primeOf, depth, exponents, exponentAt, coinCount, messageWords}
+use Rattle.circuit.specs.Legal.{allBelow}
+use Rattle.circuit.specs.Sized.{LayerOf, LegalCircuit}
+use Rattle.circuit.proofs.Sized.{deep}
+use Rattle.protocol.specs.Rounds.{layerStart}
+use Rattle.protocol.specs.Check.{needCoins}
+use Rattle.protocol.proofs.Points.{start-next}
+use Rattle.standing.specs.Standing.{LayerSoFar, layerSum}
+use Rattle.standing.proofs.Gates.{exponent-small}
+
+pub layer-of : (c : List ℕ) → LegalCircuit c → (i : ℕ) → i ≤ depth c → LayerOf c i
+layer-of c h i n = record { headed = h .sized .headed; inside = n }
+
+-- one layer's part is far from the end of a word of 64 bits
+pub times-small : (a k : ℕ) → a ≤ 7 → k < 4294967296 → a * k ≤ 30064771072
+times-small a k h l = le-trans (mul-le-mul h (le-of-lt l)) (le-refl 30064771072)
+
+module _ (c : List ℕ) (a : ℕ) where
+  pub sum-first : 0 ≡ layerSum a (take (1 - 1) (exponents c))
+  sum-first = sym sum-nil
+
+  pub sum-turn : (i total k : ℕ) → LegalCircuit c → 1 ≤ i → i ≤ depth c → total ≡ layerSum a (take (i - 1) (exponents c)) → k ≡ exponentAt c i
+      → total + (a * k + 1) ≡ layerSum a (take (i + 1 - 1) (exponents c))
+  sum-turn zero total k h low n e ek = absurd (omega arith)
+  sum-turn (suc l) total k h low n e ek =
+      let there : suc l - 1 ≡ l = omega arith in
+      let next : suc l + 1 - 1 ≡ suc l = omega arith in
+      ap (λ (m : ℕ). total + (a * m + 1)) ek
+      ∙ ap (λ (m : ℕ). m + (a * exponentAt c (suc l) + 1)) (e ∙ ap (λ (m : ℕ). layerSum a (take m (exponents c))) there)
+      ∙ sym (sum-take (λ k. a * k + 1) (exponents c) l (omega (arith, deep c h)))
+      ∙ ap (λ (m : ℕ). layerSum a (take m (exponents c))) (sym next)
+
+  pub sum-all : LegalCircuit c → layerSum a (take (depth c + 1 - 1) (exponents c)) ≡ layerSum a (exponents c)
+  sum-all h = ap (layerSum a) (take-all (depth c + 1 - 1) (exponents c) (omega (arith, deep c h)))
+
+module _ (c : List ℕ) where
+  pub so-far : LegalCircuit c → LayerSoFar c (depth c + 1)
+  so-far h = record { legal = h; first = omega arith; last = omega arith }
+
+  pub sum-start : (layer : ℕ) → LayerSoFar c layer → layerSum 2 (take (layer - 1) (exponents c)) ≡ layerStart c layer
+  sum-start zero h = absurd (let low : 1 ≤ 0 = h .first in omega arith)
+  sum-start (suc l) h = let e : suc l - 1 ≡ l = omega arith in ap (λ (m : ℕ). layerSum 2 (take m (exponents c))) e
+
+  pub sum-coins : layerSum 2 (exponents c) ≡ coinCount c
+  unfolding coinCount
+  sum-coins = refl
+
+  pub sum-words : layerSum 7 (exponents c) ≡ messageWords c
+  unfolding messageWords
+  sum-words = refl
+
+  -- at most 17 coins a layer
+  pub start-few : LegalCircuit c → (i : ℕ) → i ≤ depth c → layerStart c i ≤ 17 * i
+  start-few h zero n = omega arith
+  start-few h (suc zero) n = omega (arith, sum-nil)
+  start-few h (suc (suc l)) n =
+      let next : layerStart c (suc (suc l)) ≡ layerStart c (suc l) + 2 * exponentAt c (suc l) + 1 = start-next c l (omega (arith, deep c h)) in
+      let small = exponent-small c (suc l) (layer-of c h (suc l) (omega arith)) in
+      omega (arith, next, small, start-few h (suc l) (omega arith))
+
+-- 11 AND 12
+module _ (c cs : List ℕ) where
+  pub coins-number : ¬ (length cs ≡ coinCount c) → needCoins c cs 0 ≡ 11
+  coins-number ne = rw (ne-eqb (length cs) (coinCount c) ne) refl
+
+  pub coins-word : length cs ≡ coinCount c → allBelow (primeOf c) cs ≡ false → needCoins c cs 0 ≡ 12
+  coins-word e w = rw (eq-eqb (length cs) (coinCount c) e, w) refl
+
+  pub coins-legal : length cs ≡ coinCount c → allBelow (primeOf c) cs ≡ true → needCoins c cs 0 ≡ 0
+  coins-legal e w = rw (eq-eqb (length cs) (coinCount c) e, w) refl

@@ -1,0 +1,5 @@
+pub mod Gates
+pub mod Points
+pub mod Coins
+pub mod Lengths
+pub mod Rounds

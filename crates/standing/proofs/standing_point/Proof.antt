@@ -1,0 +1,135 @@
+-- `standing_point` meets its contract: the last 2k + 1 coins are those of the layer above, and its line ends at the point.
+-- Assumes nothing.
+use Prim.Native.Nat.{ℕ, _-_}
+use lib.ListN.{length, getD}
+use mathlib.Core.Path.{refl, ap, _∙_}
+use native.Mathlib.Omega.{arith}
+use Rattle.algebra.specs.Numbers.{words}
+use Rattle.circuit.proofs.Layers.{prime-modulus}
+use Rattle.sumcheck.specs.Summand.{linePoint}
+use Rattle.standing.proofs.Points.{standing-sizes, first-row, standing-row}
+use borrow.Author.Needs.{needs}
+use Rattle.standing.proofs.standing_point.Statement.{statement}
+use Rattle.standing.proofs.standing_point.Tie as tie
+
+returns : tie.Need-returns
+returns c h = first-row _ (c .before .before .before .args .past .now) (c .before .before .before .args .layer) _ h (c .if1 .taken) (search needs)
+
+sub-exponent : tie.Need-sub-exponent
+sub-exponent c = search needs
+
+exponent-requires : tie.Need-exponent-requires
+exponent-requires c κs = search needs
+
+cast-k : tie.Need-cast-k
+cast-k c = search needs
+
+mul-if2 : tie.Need-mul-if2
+mul-if2 c = search needs
+
+add-if2 : tie.Need-add-if2
+add-if2 c = search needs
+
+returns-2 : tie.Need-returns-2
+returns-2 c h =
+    let start = c .before .before .before .before .before in
+    let sizes = standing-sizes (start .args .circuit .now) (start .args .past .now) (start .args .layer) (c .before .exponent .result) h (c .before .before .if1 .left) (c .before .exponent .ensures) in
+    absurd (omega (arith, sizes .enough, c .if2 .taken))
+
+sub-t : tie.Need-sub-t
+sub-t c = search needs
+
+sub-v : tie.Need-sub-v
+sub-v c = search needs
+
+sub-u : tie.Need-sub-u
+sub-u c = search needs
+
+mul-row : tie.Need-mul-row
+mul-row c = search needs
+
+sub-row : tie.Need-sub-row
+sub-row c = search needs
+
+part-row-start : tie.Need-part-row-start
+part-row-start c = search needs
+
+part-row-end : tie.Need-part-row-end
+part-row-end c = search needs
+
+row-requires : tie.Need-row-requires
+row-requires c κs = search needs
+
+mul-row-2 : tie.Need-mul-row-2
+mul-row-2 c = search needs
+
+sub-row-2 : tie.Need-sub-row-2
+sub-row-2 c = search needs
+
+part-row-start-2 : tie.Need-part-row-start-2
+part-row-start-2 c = search needs
+
+part-row-end-2 : tie.Need-part-row-end-2
+part-row-end-2 c = search needs
+
+row-requires-2 : tie.Need-row-requires-2
+row-requires-2 c κs = search needs
+
+word-requires : tie.Need-word-requires
+word-requires c κs = search needs
+
+of-requires : tie.Need-of-requires
+of-requires c κs = search needs
+
+mul-line-point : tie.Need-mul-line-point
+mul-line-point c = search needs
+
+shared-slice-read-line-point : tie.Need-shared-slice-read-line-point
+shared-slice-read-line-point c = search needs
+
+line-point-requires : tie.Need-line-point-requires
+line-point-requires c κs = search needs
+
+returns-3 : tie.Need-returns-3
+returns-3 c h =
+    let at = c .before .before .before .before .before .before .before .before .before in
+    let start = at .before .before .before .before in
+    let l = start .args .circuit .now in
+    let past = start .args .past .now in
+    let f = prime-modulus l (h .legal) _ (c .before .before .of .ensures ∙ ap (λ (p : ℕ). p - 1) (c .before .before .before .word .ensures)) in
+    let first = c .before .before .before .before .before .before .row in
+    let second = c .before .before .before .before .row2 in
+    let line = c .line-point .ensures ∙ ap (λ (p : ℕ). linePoint (words p) (first .result) (second .result) (getD past (length past - 1) 0)) f in
+    standing-row l past (start .args .layer) (at .exponent .result) _ _ _ _ _ _ h (at .before .if1 .left) (at .exponent .ensures) refl refl refl
+    (first .ensures) (second .ensures) line
+
+pub standing-point-spec : {M : Type 1} → statement M
+standing-point-spec =
+    tie.close
+    (tie.spec
+    returns
+    sub-exponent
+    exponent-requires
+    cast-k
+    mul-if2
+    add-if2
+    returns-2
+    sub-t
+    sub-v
+    sub-u
+    mul-row
+    sub-row
+    part-row-start
+    part-row-end
+    row-requires
+    mul-row-2
+    sub-row-2
+    part-row-start-2
+    part-row-end-2
+    row-requires-2
+    word-requires
+    of-requires
+    mul-line-point
+    shared-slice-read-line-point
+    line-point-requires
+    returns-3)

@@ -1,0 +1,59 @@
+-- Where a walk stands: conditions on a place and the coins before it, and what stands there.
+-- Assumes nothing.
+use Prim.Native.Nat.{ℕ, _+_, _-_, _*_, _≤_}
+use mathlib.Core.Path.{_≡_}
+use mathlib.Core.List.{List, map}
+use lib.ListN.{length, take, drop}
+use Rattle.lists.specs.Count.{sum}
+use Rattle.circuit.specs.Limits.{maxExponent}
+use Rattle.circuit.specs.Circuit.{depth, exponents, exponentAt, gatesStart, outputExponent, gateCount}
+use Rattle.circuit.specs.Sized.{LegalCircuit}
+use Rattle.summand.specs.Gates.{gatesIn}
+use Rattle.protocol.specs.Rounds.{layerStart}
+use Rattle.protocol.specs.Judge.{fixed, pointAt, gatesAbove}
+use Rattle.standing.specs.declared.Stand.{Stand}
+
+-- a layer that a claim can stand at, after the coins before it; D + 1 is behind the last
+pub record AtLayer (c : List ℕ) (layer : ℕ) (past : List ℕ) : Type 0 where
+  pub legal : LegalCircuit c
+  pub first : 1 ≤ layer
+  pub last : layer ≤ 1 + depth c
+  pub counted : length past ≡ layerStart c layer
+
+-- a round of a layer, after the coins before it
+pub record AtRound (c : List ℕ) (layer round : ℕ) (past : List ℕ) : Type 0 where
+  pub legal : LegalCircuit c
+  pub first : 1 ≤ layer
+  pub last : layer ≤ depth c
+  pub reached : round ≤ 2 * exponentAt c layer
+  pub counted : length past ≡ layerStart c layer + round
+
+-- where the gates of a layer start
+unfoldable pub gatesFrom : List ℕ → ℕ → ℕ
+gatesFrom c layer = gatesStart c + 3 * gateCount outputExponent (take layer (exponents c))
+
+-- a row of eight words with a point's coordinates in front
+pub record Row (point row : List ℕ) : Type 0 where
+  pub size : length row ≡ maxExponent
+  pub holds : take (length point) row ≡ point
+
+-- a layer that the circuit has, or the place behind its last
+pub record LayerSoFar (c : List ℕ) (layer : ℕ) : Type 0 where
+  pub legal : LegalCircuit c
+  pub first : 1 ≤ layer
+  pub last : layer ≤ 1 + depth c
+
+-- the sum of a × k + 1 over exponents: of coins with 2 for a, of message words with 7
+abbrev pub layerSum : ℕ → List ℕ → ℕ
+layerSum a ks = sum (map (λ k. a * k + 1) ks)
+
+-- what stands at a round
+pub record Stands (c : List ℕ) (layer : ℕ) (past : List ℕ) (s : Stand) : Type 0 where
+  pub above : s .above ≡ exponentAt c (layer - 1)
+  pub own : s .own ≡ exponentAt c layer
+  pub ordered : s .from ≤ s .to
+  pub inside : s .to ≤ length c
+  pub gates : gatesIn (take (s .to - s .from) (drop (s .from) c)) ≡ gatesAbove c layer
+  pub point : Row (pointAt c layer past) (s .point)
+  pub first : Row (take (exponentAt c layer) (fixed c layer past)) (s .u)
+  pub second : Row (drop (exponentAt c layer) (fixed c layer past)) (s .v)

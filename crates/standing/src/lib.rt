@@ -1,0 +1,202 @@
+// Where a walk stands: what a round's place and the coins before it say of a circuit. The check and the prover both read it here. Every function
+// is total; some promise nothing where the list is no legal circuit or the coins are not those before the place.
+use extension::MAX_COORDINATES;
+use field::Field;
+use legality::MAX_DEPTH;
+use refusal::Cause;
+use refusal::Checked;
+ghost use mathlib.Core.Path.{_≡_};
+ghost use Prim.Native.Nat.{_+_, _-_, _*_, _≤_};
+ghost use lib.ListN.{take, getD};
+ghost use Rattle.refusal.specs.Number.{causeOf};
+ghost use Rattle.circuit.specs.Limits.{maxDepth, maxExponent};
+ghost use Rattle.circuit.specs.Circuit.{depth, exponents, exponentAt, coinCount, messageWords};
+ghost use Rattle.circuit.specs.Sized.{LegalCircuit};
+ghost use Rattle.protocol.specs.Rounds.{place, layerStart, isLine};
+ghost use Rattle.protocol.specs.Judge.{pointAt, messageLength};
+ghost use Rattle.protocol.specs.Check.{needCoins};
+ghost use Rattle.standing.specs.Standing.{AtLayer, AtRound, gatesFrom, layerSum, LayerSoFar, Row, Stands};
+
+// A list's word, 0 past its end.
+fn word(list: &[u32], at: usize) -> u32
+    ensures { λ r. ⌜ r ≡ getD (now (list .entry)) at 0 ⌝ }
+{
+    if at < list.len() {
+        return list[at];
+    }
+    0
+}
+
+// The width exponent of a layer, 0 for one that the list has not.
+pub fn exponent(circuit: &[u32], layer: usize) -> u32
+    ensures { λ r. ⌜ r ≡ exponentAt (now (circuit .entry)) layer ⌝ }
+{
+    if layer == 0 {
+        return 0;
+    }
+    if (word(circuit, 1) as usize) < layer {
+        return 0;
+    }
+    word(circuit, 1 + layer)
+}
+
+// Whether a round is its layer's line.
+pub fn is_line(circuit: &[u32], layer: usize, round: usize) -> bool
+    ensures { λ r. ⌜ r ≡ isLine (now (circuit .entry)) (place layer round) ⌝ }
+{
+    round == 2 * exponent(circuit, layer) as usize
+}
+
+// The words of a round's message.
+pub fn message_length(circuit: &[u32], layer: usize, round: usize) -> usize
+    ensures { λ r. ⌜ r ≡ messageLength (now (circuit .entry)) (place layer round) ⌝ }
+{
+    if is_line(circuit, layer, round) {
+        return exponent(circuit, layer) as usize + 1;
+    }
+    3
+}
+
+// The sum of a × k + 1 over the exponents k of the layers before this one, for a small a.
+fn sum_layers(circuit: &[u32], a: usize, layer: usize) -> usize
+    requires { ⌜ a ≤ 7 ⌝ }
+    ensures { λ r. ⌜ (LayerSoFar (now (circuit .entry)) layer → r ≡ layerSum a (take (layer - 1) (exponents (now (circuit .entry))))) ⌝ }
+{
+    if MAX_DEPTH as usize + 1 < layer {
+        return 0;
+    }
+    let mut sum = 0;
+    for i in 1..layer {
+        sum += a * exponent(circuit, i) as usize + 1;
+    }
+    sum
+}
+
+// The coins before a layer.
+pub fn coins_before(circuit: &[u32], layer: usize) -> usize
+    ensures { λ r. ⌜ (LayerSoFar (now (circuit .entry)) layer → r ≡ layerStart (now (circuit .entry)) layer) ⌝ }
+{
+    sum_layers(circuit, 2, layer)
+}
+
+// The coins of a circuit.
+pub fn coin_count(circuit: &[u32]) -> usize
+    ensures { λ r. ⌜ (LegalCircuit (now (circuit .entry)) → r ≡ coinCount (now (circuit .entry))) ⌝ }
+{
+    sum_layers(circuit, 2, word(circuit, 1) as usize + 1)
+}
+
+// The words of all its messages.
+pub fn message_words(circuit: &[u32]) -> usize
+    ensures { λ r. ⌜ (LegalCircuit (now (circuit .entry)) → r ≡ messageWords (now (circuit .entry))) ⌝ }
+{
+    sum_layers(circuit, 7, word(circuit, 1) as usize + 1)
+}
+
+// The refusals 11 and 12.
+pub fn check_coins(circuit: &[u32], coins: &[u32]) -> Checked
+    ensures { λ r. ⌜ (LegalCircuit (now (circuit .entry)) → causeOf r ≡ needCoins (now (circuit .entry)) (now (coins .entry)) 0) ⌝ }
+{
+    if coins.len() != coin_count(circuit) {
+        return Checked::Refused(Cause::CoinCount);
+    }
+    if !legality::all_below(coins, word(circuit, 0)) {
+        return Checked::Refused(Cause::CoinWord);
+    }
+    Checked::Legal
+}
+
+// A point's coordinates in a row of eight words; of more than eight, the first eight.
+fn row(coordinates: &[u32]) -> [u32; MAX_COORDINATES]
+    ensures { λ r. ⌜ Row (take maxExponent (now (coordinates .entry))) r ⌝ }
+{
+    let mut row = [0u32; MAX_COORDINATES];
+    for i in 0..lists::least(coordinates.len(), MAX_COORDINATES) {
+        row[i] = coordinates[i];
+    }
+    row
+}
+
+// The standing point at a layer, from the coins before it: the end of the line of the layer above.
+pub fn standing_point(circuit: &[u32], layer: usize, past: &[u32]) -> [u32; MAX_COORDINATES]
+    ensures { λ r. ⌜ (AtLayer (now (circuit .entry)) layer (now (past .entry)) → Row (pointAt (now (circuit .entry)) layer (now (past .entry))) r) ⌝ }
+{
+    if layer < 2 {
+        return [0u32; MAX_COORDINATES];
+    }
+    let k = exponent(circuit, layer - 1) as usize;
+    if past.len() < 2 * k + 1 {
+        return [0u32; MAX_COORDINATES];
+    }
+    let t = past.len() - 1;
+    let v = t - k;
+    let u = v - k;
+    let points = [row(&past[u..v]), row(&past[v..t])];
+    summand::line_point(Field::of(word(circuit, 0)), points, past[t])
+}
+
+// Where the gates of a layer start.
+fn gates_from(circuit: &[u32], layer: usize) -> usize
+    requires { ⌜ layer ≤ maxDepth ⌝ }
+    ensures { λ r. ⌜ (LegalCircuit (now (circuit .entry)) → layer ≤ depth (now (circuit .entry)) → r ≡ gatesFrom (now (circuit .entry)) layer) ⌝ }
+{
+    let mut count = 0;
+    for i in 0..layer {
+        count += legality::width(exponent(circuit, i));
+    }
+    2 + word(circuit, 1) as usize + 3 * count
+}
+
+// What stands at a round: the exponents of the layer above and of its own, the part of the list with the gates above, the standing point, and
+// the layer's coins so far as coordinates of its two points.
+pub struct Stand {
+    pub above: usize,
+    pub own: usize,
+    pub from: usize,
+    pub to: usize,
+    pub point: [u32; MAX_COORDINATES],
+    pub u: [u32; MAX_COORDINATES],
+    pub v: [u32; MAX_COORDINATES],
+}
+
+// What stands where there is no such round.
+fn nothing() -> Stand
+    ensures { λ r. ⌜ r .to ≡ 0 ⌝ }
+{
+    Stand {
+        above: 0,
+        own: 0,
+        from: 0,
+        to: 0,
+        point: [0u32; MAX_COORDINATES],
+        u: [0u32; MAX_COORDINATES],
+        v: [0u32; MAX_COORDINATES],
+    }
+}
+
+// What stands at a round, from the coins before it.
+pub fn at_round(circuit: &[u32], layer: usize, round: usize, past: &[u32]) -> Stand
+    ensures { λ r. ⌜ (AtRound (now (circuit .entry)) layer round (now (past .entry)) → Stands (now (circuit .entry)) layer (now (past .entry)) r) ⌝ }
+{
+    if layer < 1 {
+        return nothing();
+    }
+    if (MAX_DEPTH as usize) < layer {
+        return nothing();
+    }
+    if past.len() < round {
+        return nothing();
+    }
+    let own = exponent(circuit, layer) as usize;
+    let start = past.len() - round;
+    let middle = start + lists::least(round, own);
+    Stand {
+        above: exponent(circuit, layer - 1) as usize,
+        own,
+        from: gates_from(circuit, layer - 1),
+        to: gates_from(circuit, layer),
+        point: standing_point(circuit, layer, &past[..start]),
+        u: row(&past[start..middle]),
+        v: row(&past[middle..]),
+    }
+}
