@@ -41,16 +41,6 @@ fn fill_layer(f: Field, gates: &[u32], count: usize, next: usize, values: &mut [
     }
 }
 
-// Writes `words` over the front of a buffer.
-fn copy_front(buffer: &mut [u32], words: &[u32])
-    requires { ⌜ length (now words) ≤ length (now buffer) ⌝ }
-    ensures { λ _. ⌜ now (buffer .exit) ≡ over (now (words .entry)) (now (buffer .entry)) ⌝ }
-{
-    for i in 0..words.len() {
-        buffer[i] = words[i];
-    }
-}
-
 // The number of gates of a layer.
 fn layer_width(circuit: &[u32], layer: usize) -> usize
     requires { ⌜ LayerOf (now circuit) layer ⌝ }
@@ -68,7 +58,7 @@ fn place_input(input: &[u32], at: usize) -> [u32; MAX_VALUES]
     ensures { λ r. ⌜ Placed (now (input .entry)) at r ⌝ }
 {
     let mut values = [0u32; MAX_VALUES];
-    copy_front(&mut values[at..], input);
+    lists::put(&mut values[at..], input);
     values
 }
 
@@ -113,6 +103,6 @@ pub fn evaluate(circuit: &[u32], input: &[u32], buffer: &mut [u32]) -> Evaluated
         return Evaluated::Refused(Cause::BufferShort);
     }
     let values = all_values(circuit, input);
-    copy_front(buffer, &values[..total]);
+    lists::put(buffer, &values[..total]);
     Evaluated::Output(values[0])
 }

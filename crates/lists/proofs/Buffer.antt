@@ -80,3 +80,7 @@ module _ {A : Type 0} where
   rest-back l part at n e =
       let none : drop (n - at) (drop at l) ≡ [] = drop-of-length-le (drop at l) {i = n - at} (simp length-drop (omega arith)) in
       ap (λ (t : List A). take at l ++ (part ++ t)) none ∙ ap (λ (t : List A). take at l ++ t) (append-nil part)
+
+  -- words that the buffer holds
+  pub over-whole : (words l after : List A) → length words ≤ length l → after ≡ over (take (length l) words) l → after ≡ over words l
+  over-whole words l after h e = e ∙ ap (λ (ms : List A). over ms l) (take-all (length l) words h)

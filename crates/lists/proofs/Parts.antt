@@ -28,3 +28,10 @@ flatten-part (l ∷ ls) (suc i) h =
     ap (λ (n : ℕ). take (length (getD ls i [])) (drop n (l ++ flatten ls))) (sum-cons (length l) (map length (take i ls)))
     ∙ ap (take (length (getD ls i []))) (sym (drop-drop (sum (map length (take i ls))) (length l) (l ++ flatten ls)) ∙ ap (drop (sum (map length (take i ls)))) (drop-append-seam l (flatten ls)))
     ∙ flatten-part ls i (le-of-suc-le-suc h)
+
+-- to take from a part is to take the fewer of the two
+pub take-least : {A : Type 0} (a b : ℕ) (l : List A) → take (min a b) l ≡ take a (take b l)
+take-least zero b l = ap (λ (n : ℕ). take n l) (zero-min b)
+take-least (suc a) zero l = ap (λ (n : ℕ). take n l) (min-zero (suc a))
+take-least {A} (suc a) (suc b) [] = ap (λ (n : ℕ). take {A = A} n []) (suc-min-suc a b)
+take-least {A} (suc a) (suc b) (x ∷ l) = ap (λ (n : ℕ). take n (x ∷ l)) (suc-min-suc a b) ∙ ap (λ (t : List A). x ∷ t) (take-least a b l)

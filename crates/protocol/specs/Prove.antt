@@ -17,14 +17,18 @@ use Rattle.protocol.specs.Rounds.{Place, place, rounds, isLine}
 use Rattle.protocol.specs.Judge.{fixed, pointAt, gatesAbove, messageLength, descent}
 use Rattle.protocol.specs.Check.{needCoins}
 
--- "The honest messages are a rule too: the walk's, with V the extension of layer i's values."
-unfoldable pub honest : List ℕ → List ℕ → Rule Place
-honest c input r past =
+-- the walk's message of a round, "with V the extension of layer i's values" vs
+abbrev pub messageFrom : List ℕ → List ℕ → Rule Place
+messageFrom c vs r past =
     cond (isLine c r)
-    (lineMessage (words (primeOf c)) (valuesAt c input (r .layer))
+    (lineMessage (words (primeOf c)) vs
     (take (exponentAt c (r .layer)) (fixed c (r .layer) past)) (drop (exponentAt c (r .layer)) (fixed c (r .layer) past)))
     (sumMessage (words (primeOf c)) (exponentAt c (r .layer)) (gatesAbove c (r .layer)) (pointAt c (r .layer) past)
-    (valuesAt c input (r .layer)) (fixed c (r .layer) past))
+    vs (fixed c (r .layer) past))
+
+-- "The honest messages are a rule too: the walk's"
+unfoldable pub honest : List ℕ → List ℕ → Rule Place
+honest c input r past = messageFrom c (valuesAt c input (r .layer)) r past
 
 -- a rule's messages for a coin list, one directly after another
 unfoldable pub transcript : List ℕ → List ℕ → Rule Place → List ℕ → List ℕ

@@ -5,7 +5,7 @@ use mathlib.Core.Path.{_≡_}
 use mathlib.Core.List.{List, map}
 use lib.ListN.{length, take, drop}
 use Rattle.lists.specs.Count.{sum}
-use Rattle.circuit.specs.Limits.{maxExponent}
+use Rattle.circuit.specs.Limits.{maxDepth, maxExponent}
 use Rattle.circuit.specs.Circuit.{depth, exponents, exponentAt, gatesStart, outputExponent, gateCount}
 use Rattle.circuit.specs.Sized.{LegalCircuit}
 use Rattle.summand.specs.Gates.{gatesIn}
@@ -27,6 +27,11 @@ pub record AtRound (c : List ℕ) (layer round : ℕ) (past : List ℕ) : Type 0
   pub last : layer ≤ depth c
   pub reached : round ≤ 2 * exponentAt c layer
   pub counted : length past ≡ layerStart c layer + round
+
+-- the gates of the layers before one: not more than a circuit has
+pub record GatesBefore (c : List ℕ) (layer r : ℕ) : Type 0 where
+  pub few : r ≤ 256 * maxDepth
+  pub counted : LegalCircuit c → layer ≤ depth c → r ≡ gateCount outputExponent (take layer (exponents c))
 
 -- where the gates of a layer start
 unfoldable pub gatesFrom : List ℕ → ℕ → ℕ

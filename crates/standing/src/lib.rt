@@ -9,13 +9,13 @@ ghost use mathlib.Core.Path.{_≡_};
 ghost use Prim.Native.Nat.{_+_, _-_, _*_, _≤_};
 ghost use lib.ListN.{take, getD};
 ghost use Rattle.refusal.specs.Number.{causeOf};
-ghost use Rattle.circuit.specs.Limits.{maxDepth, maxExponent};
+ghost use Rattle.circuit.specs.Limits.{maxExponent};
 ghost use Rattle.circuit.specs.Circuit.{depth, exponents, exponentAt, coinCount, messageWords};
 ghost use Rattle.circuit.specs.Sized.{LegalCircuit};
 ghost use Rattle.protocol.specs.Rounds.{place, layerStart, isLine};
 ghost use Rattle.protocol.specs.Judge.{pointAt, messageLength};
 ghost use Rattle.protocol.specs.Check.{needCoins};
-ghost use Rattle.standing.specs.Standing.{AtLayer, AtRound, gatesFrom, layerSum, LayerSoFar, Row, Stands};
+ghost use Rattle.standing.specs.Standing.{AtLayer, AtRound, gatesFrom, GatesBefore, layerSum, LayerSoFar, Row, Stands};
 
 // A list's word, 0 past its end.
 fn word(list: &[u32], at: usize) -> u32
@@ -135,16 +135,25 @@ pub fn standing_point(circuit: &[u32], layer: usize, past: &[u32]) -> [u32; MAX_
     summand::line_point(Field::of(word(circuit, 0)), points, past[t])
 }
 
-// Where the gates of a layer start.
-fn gates_from(circuit: &[u32], layer: usize) -> usize
-    requires { ⌜ layer ≤ maxDepth ⌝ }
-    ensures { λ r. ⌜ (LegalCircuit (now (circuit .entry)) → layer ≤ depth (now (circuit .entry)) → r ≡ gatesFrom (now (circuit .entry)) layer) ⌝ }
+// The gates of the layers before one.
+pub fn gates_before(circuit: &[u32], layer: usize) -> usize
+    ensures { λ r. ⌜ GatesBefore (now (circuit .entry)) layer r ⌝ }
 {
+    if (MAX_DEPTH as usize) < layer {
+        return 0;
+    }
     let mut count = 0;
     for i in 0..layer {
         count += legality::width(exponent(circuit, i));
     }
-    2 + word(circuit, 1) as usize + 3 * count
+    count
+}
+
+// Where the gates of a layer start.
+fn gates_from(circuit: &[u32], layer: usize) -> usize
+    ensures { λ r. ⌜ (LegalCircuit (now (circuit .entry)) → layer ≤ depth (now (circuit .entry)) → r ≡ gatesFrom (now (circuit .entry)) layer) ⌝ }
+{
+    2 + word(circuit, 1) as usize + 3 * gates_before(circuit, layer)
 }
 
 // What stands at a round: the exponents of the layer above and of its own, the part of the list with the gates above, the standing point, and
@@ -179,9 +188,6 @@ pub fn at_round(circuit: &[u32], layer: usize, round: usize, past: &[u32]) -> St
     ensures { λ r. ⌜ (AtRound (now (circuit .entry)) layer round (now (past .entry)) → Stands (now (circuit .entry)) layer (now (past .entry)) r) ⌝ }
 {
     if layer < 1 {
-        return nothing();
-    }
-    if (MAX_DEPTH as usize) < layer {
         return nothing();
     }
     if past.len() < round {

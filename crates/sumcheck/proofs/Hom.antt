@@ -19,7 +19,7 @@ use Rattle.sumcheck.specs.Summand.{wiring, combined, summand, summandAt,
 use Rattle.sumcheck.specs.Message.{fit, sumMessage, lineMessage}
 
 module _ {C D : Type 0} {N : Numbers C} {M : Numbers D} {h : C → D} (H : Hom N M h) where
-  hom-operate : (kind : ℕ) (x y : C) → h (operate N kind x y) ≡ operate M kind (h x) (h y)
+  pub hom-operate : (kind : ℕ) (x y : C) → h (operate N kind x y) ≡ operate M kind (h x) (h y)
   hom-operate zero x y = H .keeps-𝟘
   hom-operate (suc zero) x y = H .keeps-add x y
   hom-operate (suc (suc zero)) x y = H .keeps-mul x y
@@ -35,9 +35,9 @@ module _ {C D : Type 0} {N : Numbers C} {M : Numbers D} {h : C → D} (H : Hom N
   hom-layer next gs =
       map-map (gateValue N next) h gs ∙ map-same (λ g. h (gateValue N next g)) (gateValue M (map h next)) gs (hom-gateValue next)
 
-  hom-cond : (b : Bool) {c : C} {d : D} → h c ≡ d → h (cond b c (N .𝟘)) ≡ cond b d (M .𝟘)
-  hom-cond true e = e
-  hom-cond false e = H .keeps-𝟘
+  pub hom-cond : (b : Bool) {c c′ : C} {d d′ : D} → h c ≡ d → h c′ ≡ d′ → h (cond b c c′) ≡ cond b d d′
+  hom-cond true e e′ = e
+  hom-cond false e e′ = e′
 
   pub hom-wiring : (kind : ℕ) (gs : List Gate) (point u v : List C)
       → h (wiring N kind gs point u v) ≡ wiring M kind gs (map h point) (map h u) (map h v)
@@ -45,7 +45,8 @@ module _ {C D : Type 0} {N : Numbers C} {M : Numbers D} {h : C → D} (H : Hom N
   hom-wiring kind gs point u v =
       rw (length-map point h, length-map u h, length-map v h)
       (hom-sumFrom H _ _
-      (λ a g. hom-cond (eqb (g .kind) kind) (hom-mul H (hom-mul H (hom-weightOfBits H _ point) (hom-weightOfBits H _ u)) (hom-weightOfBits H _ v))) 0 gs)
+      (λ a g. hom-cond (eqb (g .kind) kind)
+      (hom-mul H (hom-mul H (hom-weightOfBits H _ point) (hom-weightOfBits H _ u)) (hom-weightOfBits H _ v)) (H .keeps-𝟘)) 0 gs)
 
   pub hom-combined : (gs : List Gate) (point u v : List C) {x y : C} {x′ y′ : D} → h x ≡ x′ → h y ≡ y′
       → h (combined N gs point u v x y) ≡ combined M gs (map h point) (map h u) (map h v) x′ y′

@@ -4,4 +4,6 @@ pub mod Layer
 pub mod Degree
 pub mod Message
 pub mod Words
+pub mod Sides
+pub mod Gatewise
 pub mod Line

@@ -2,3 +2,4 @@ pub mod Summand
 pub mod Message
 pub mod Line
 pub mod Theorems
+pub mod Gatewise

@@ -52,11 +52,11 @@ module _ {C : Type 0} (N : Numbers C) where
   abbrev pub sumOn : (ℕ → Gate → C) → ℕ → List ℕ → ℕ → C
   sumOn f n ws a = sumFrom N f a (gatesOf (n - a) (drop (3 * a) ws))
 
-  sum-none : (f : ℕ → Gate → C) (n : ℕ) (ws : List ℕ) → N .𝟘 ≡ sumOn f n ws n
+  pub sum-none : (f : ℕ → Gate → C) (n : ℕ) (ws : List ℕ) → N .𝟘 ≡ sumOn f n ws n
   unfolding sumFrom gatesOf
   sum-none f n ws = rw (sub-self n) refl
 
-  sum-step : (f : ℕ → Gate → C) (n : ℕ) (ws : List ℕ) (a : ℕ) (x sum : C) → 0 < a → a ≤ n
+  pub sum-step : (f : ℕ → Gate → C) (n : ℕ) (ws : List ℕ) (a : ℕ) (x sum : C) → 0 < a → a ≤ n
       → x ≡ f (a - 1) (gateAt ws (a - 1)) → sum ≡ sumOn f n ws a → N .add x sum ≡ sumOn f n ws (a - 1)
   unfolding sumFrom
   sum-step f n ws a x sum more within e h =
@@ -65,7 +65,7 @@ module _ {C : Type 0} (N : Numbers C) where
       ap₂ (N .add) e (h ∙ ap (λ (b : ℕ). sumFrom N f b (gatesOf (n - a) (drop (3 * b) ws))) (sym again))
       ∙ sym (ap (sumFrom N f (a - 1)) (ap (λ (m : ℕ). gatesOf m (drop (3 * (a - 1)) ws)) longer ∙ gates-cons (n - a) (a - 1) ws))
 
-  sum-all : (f : ℕ → Gate → C) (n : ℕ) (ws : List ℕ) → sumOn f n ws 0 ≡ sumFrom N f 0 (gatesOf n ws)
+  pub sum-all : (f : ℕ → Gate → C) (n : ℕ) (ws : List ℕ) → sumOn f n ws 0 ≡ sumFrom N f 0 (gatesOf n ws)
   sum-all f n ws = ap (λ (m : ℕ). sumFrom N f 0 (gatesOf m ws)) (sub-zero n)
 
   pub record Passed (ws : List ℕ) (point u v : List C) (adds products : C) (a : ℕ) : Type 0 where

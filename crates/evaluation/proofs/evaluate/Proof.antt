@@ -1,13 +1,16 @@
 -- `evaluate` meets its contract: each return is one case of its answer, and only the last writes.
 -- Assumes nothing.
+use Prim.Native.Nat.{_+_}
 use mathlib.Core.Path.{sym, ap, _∙_}
 use native.Mathlib.Omega.{arith}
 use native.Mathlib.Nat.{le-trans, le-of-eq}
+use lib.ListN.{length}
 use lib.Seq.{length-take-le}
 use Rattle.refusal.specs.Number.{causeOf}
 use Rattle.circuit.proofs.Loading.{legal-lists}
 use Rattle.evaluation.proofs.Answering.{left-lists, left-short, left-values, total-values, total-room}
 use borrow.Author.Needs.{needs}
+use Rattle.lists.proofs.Buffer.{over-whole}
 use Rattle.evaluation.proofs.evaluate.Statement.{statement}
 use Rattle.evaluation.proofs.evaluate.Tie as tie
 
@@ -78,8 +81,8 @@ array-share-prefix-values c =
     let room = total-room l v (a .buffer .now) legal in
     omega (arith, c .before .all-values .ensures .size)
 
-slice-aggregate-copy-front : tie.Need-slice-aggregate-copy-front
-slice-aggregate-copy-front c =
+slice-aggregate-put : tie.Need-slice-aggregate-put
+slice-aggregate-put c =
     let told = c .before .before .before .before .before in
     let at = told .before .before in
     let a = at .before .before .before .before .args in
@@ -92,19 +95,8 @@ slice-aggregate-copy-front c =
     let size = c .before .before .all-values .ensures .size in
     sym (length-take-le _ _ (omega arith))
 
-copy-front-requires : tie.Need-copy-front-requires
-copy-front-requires c κs =
-    let told = c .before .before .before .before .before in
-    let at = told .before .before in
-    let a = at .before .before .before .before .args in
-    let l = a .circuit .now in
-    let v = a .input .now in
-    let none = sym (at .check-lists .ensures) ∙ ap causeOf (told .enum-told .given .1) in
-    let legal = legal-lists l v none in
-    let total = total-values l v (a .buffer .now) (c .before .before .before .before .gate-count .result) (c .before .before .before .before .gate-count .ensures (legal .circuit .sized .headed)) legal in
-    let room = total-room l v (a .buffer .now) legal in
-    let size = c .before .before .all-values .ensures .size in
-    le-trans (le-of-eq (length-take-le _ _ (omega arith))) (c .before .before .before .if1 .left)
+put-requires : tie.Need-put-requires
+put-requires c κs = search needs
 
 array-read-t20 : tie.Need-array-read-t20
 array-read-t20 c = search needs
@@ -124,7 +116,10 @@ returns-3 c =
     let total = total-values l v (a .buffer .now) (c .before .before .before .before .before .before .before .gate-count .result) (c .before .before .before .before .before .before .before .gate-count .ensures (legal .circuit .sized .headed)) legal in
     let room = total-room l v (a .buffer .now) legal in
     let done = left-values l v (a .buffer .now) _ _ none legal total (c .before .before .before .before .before .before .if1 .left) (c .before .before .before .before .before .all-values .ensures) in
-    record { answer = done .answer; buffer = c .before .before .copy-front .ensures ∙ done .buffer }
+    let size = c .before .before .before .before .before .all-values .ensures .size in
+    let count = c .before .before .before .before .before .before .before .gate-count .result + length v in
+    let fits = le-trans (le-of-eq (length-take-le count (c .before .before .before .before .before .all-values .result) (omega arith))) (c .before .before .before .before .before .before .if1 .left) in
+    record { answer = done .answer; buffer = over-whole _ (a .buffer .now) _ fits (c .before .before .put .ensures) ∙ done .buffer }
 
 pub evaluate-spec : {M : Type 1} → statement M
 evaluate-spec =
@@ -139,8 +134,8 @@ evaluate-spec =
     returns-2
     all-values-requires
     array-share-prefix-values
-    slice-aggregate-copy-front
-    copy-front-requires
+    slice-aggregate-put
+    put-requires
     array-read-t20
     same-length
     returns-3)

@@ -5,14 +5,15 @@ use lib.ListN.{replicate, length-replicate}
 use Rattle.circuit.specs.Limits.{maxValues}
 use Rattle.evaluation.proofs.Evaluating.{placed}
 use borrow.Author.Needs.{needs}
+use Rattle.lists.proofs.Buffer.{over-whole}
 use Rattle.evaluation.proofs.place_input.Statement.{statement}
 use Rattle.evaluation.proofs.place_input.Tie as tie
 
 mul-values : tie.Need-mul-values
 mul-values c = search needs
 
-sub-copy-front : tie.Need-sub-copy-front
-sub-copy-front c = search needs
+sub-put : tie.Need-sub-put
+sub-put c = search needs
 
 part-values-start : tie.Need-part-values-start
 part-values-start c = search needs
@@ -20,22 +21,22 @@ part-values-start c = search needs
 part-values-end : tie.Need-part-values-end
 part-values-end c = search needs
 
-copy-front-requires : tie.Need-copy-front-requires
-copy-front-requires c κs = search needs
+put-requires : tie.Need-put-requires
+put-requires c κs = search needs
 
 returns : tie.Need-returns
 returns c =
     let a = c .before .before .before .before .args in
-    placed (replicate {A = ℕ} maxValues 0) (c .before .copy-front .last .0) (a .input .now) (a .at) (length-replicate {A = ℕ} maxValues 0)
-    (c .before .before .before .before .pre) (c .before .copy-front .ensures)
+    placed (replicate {A = ℕ} maxValues 0) (c .before .put .last .0) (a .input .now) (a .at) (length-replicate {A = ℕ} maxValues 0)
+    (c .before .before .before .before .pre) (over-whole (a .input .now) _ _ (search needs) (c .before .put .ensures))
 
 pub place-input-spec : {M : Type 1} → statement M
 place-input-spec =
     tie.close
     (tie.spec
     mul-values
-    sub-copy-front
+    sub-put
     part-values-start
     part-values-end
-    copy-front-requires
+    put-requires
     returns)

@@ -54,7 +54,7 @@ loop-again c =
       search needs,
       at .loop .inv .1,
       ap₂ (λ (b : List ℕ) (x : ℕ). set b i x) (at .loop .inv .2) (sym (getD-take most l i 0 (omega (arith, at .loop .inv .1, c .before .loop-test .taken))))
-      ∙ over-next (take most l) (a .buffer .now) i 0 (omega (arith, count, at .loop .inv .1, c .before .loop-test .taken)) (omega (arith, count)),
+          ∙ over-next (take most l) (a .buffer .now) i 0 (omega (arith, count, at .loop .inv .1, c .before .loop-test .taken)) (omega (arith, count)),
       length-set (at .loop .buffer) i (getD l i 0) ∙ at .loop .inv .3,
     )
 

@@ -9,7 +9,7 @@ use Rattle.standing.specs.Standing.{Row}
 use mathlib.Core.Path.{refl, sym, subst}
 use native.Mathlib.Omega.{arith}
 use lib.Seq.{length-take-le}
-use Rattle.standing.proofs.Rounds.{low-layer, above-layer, stands}
+use Rattle.standing.proofs.Rounds.{above-layer, stands}
 use borrow.Author.Needs.{needs}
 use Rattle.standing.proofs.at_round.Statement.{statement}
 use Rattle.standing.proofs.at_round.Tie as tie
@@ -20,20 +20,11 @@ nothing-requires c κs = search needs
 returns : tie.Need-returns
 returns c h = absurd (let some = h .first in omega (arith, some, c .before .if1 .taken))
 
-cast-if2 : tie.Need-cast-if2
-cast-if2 c = search needs
-
 nothing-requires-2 : tie.Need-nothing-requires-2
 nothing-requires-2 c κs = search needs
 
 returns-2 : tie.Need-returns-2
-returns-2 c h = absurd (let flat = low-layer _ _ _ _ h in omega (arith, flat, c .before .if2 .taken))
-
-nothing-requires-3 : tie.Need-nothing-requires-3
-nothing-requires-3 c κs = search needs
-
-returns-3 : tie.Need-returns-3
-returns-3 c h = absurd (let size = h .counted in omega (arith, size, c .before .if3 .taken))
+returns-2 c h = absurd (let size = h .counted in omega (arith, size, c .before .if2 .taken))
 
 exponent-requires : tie.Need-exponent-requires
 exponent-requires c κs = search needs
@@ -98,10 +89,10 @@ part-row-end-2 c = search needs
 row-requires-2 : tie.Need-row-requires-2
 row-requires-2 c κs = search needs
 
-returns-4 : tie.Need-returns-4
-returns-4 c h =
+returns-3 : tie.Need-returns-3
+returns-3 c h =
     let own = c .before .before .before .before .before .before .before .before .before in
-    let start = own .before .before .before .before .before .before .before in
+    let start = own .before .before .before .before .before .before in
     let l = start .args .circuit .now in
     let past = start .args .past .now in
     stands l (start .args .layer) (start .args .round) past h _ (length past - start .args .round) (own .least .result) refl (own .least .ensures)
@@ -118,11 +109,8 @@ at-round-spec =
     (tie.spec
     nothing-requires
     returns
-    cast-if2
     nothing-requires-2
     returns-2
-    nothing-requires-3
-    returns-3
     exponent-requires
     cast-own
     sub-start
@@ -144,4 +132,4 @@ at-round-spec =
     part-row-start-2
     part-row-end-2
     row-requires-2
-    returns-4)
+    returns-3)

@@ -1,0 +1,105 @@
+-- The three sums, built from the last gate: with `a` gates to come, they are the sums over the gates passed.
+-- Assumes nothing.
+use mathlib.Core.Path.{_≡_, sym, ap, ap₂, _∙_}
+use mathlib.Core.Bool.{Bool, cond, _||_}
+use mathlib.Core.List.{List, [], _∷_}
+use Prim.Native.Nat.{ℕ, _+_, _-_, _*_, _/_, _≤_, _<_}
+use native.Mathlib.Omega.{arith}
+use lib.ListN.{length, getD}
+use Rattle.algebra.specs.Numbers.{Numbers, words}
+use Rattle.multilinear.specs.Extension.{sumFrom}
+use Rattle.circuit.specs.Gate.{Gate, operate}
+use Rattle.sumcheck.specs.Gatewise.{Side, threeSums, gateShare, gateIsOne, gateOwn, gateOther, sumsOf}
+use Rattle.summand.specs.Gates.{gatesIn}
+use Rattle.summand.proofs.Wires.{gateAt, sumOn, sum-none, sum-step, sum-all}
+use Rattle.sums.specs.declared.Wire.{Wire}
+use Rattle.sums.specs.declared.Counts.{Counts}
+use Rattle.sums.specs.Wire.{Reads, weighed, Counted}
+
+module _ (p : ℕ) where
+  abbrev N : Numbers ℕ
+  N = words p
+
+  -- A GATE'S PARTS, by its bit
+  pub counted : (kind weight : ℕ) (l r : Wire) (b : Bool) (value squares : ℕ) → l .one || r .one ≡ b
+      → value ≡ weighed N weight l r (operate N kind (l .own) (r .own))
+      → squares ≡ weighed N weight l r (N .sub (operate N kind (l .own) (r .own)) (operate N kind (l .other) (r .other)))
+      → Counted N kind weight l r record { zeros = cond b (N .𝟘) value; ones = cond b value (N .𝟘); squares = squares }
+  counted kind weight l r b value squares e v q = record {
+    zeros = ap₂ (λ (t : Bool) (x : ℕ). cond t (N .𝟘) x) (sym e) v;
+    ones = ap₂ (λ (t : Bool) (x : ℕ). cond t x (N .𝟘)) (sym e) v;
+    squares = q;
+  }
+
+  -- the same from the tables
+  module _ (ps : List ℕ) (l r : Side ℕ) where
+    abbrev zeroPart : ℕ → Gate → ℕ
+    zeroPart a g = cond (gateIsOne N l r g) 0 (N .mul (gateShare N ps l r a g) (gateOwn N l r g))
+
+    abbrev onePart : ℕ → Gate → ℕ
+    onePart a g = cond (gateIsOne N l r g) (N .mul (gateShare N ps l r a g) (gateOwn N l r g)) 0
+
+    abbrev squarePart : ℕ → Gate → ℕ
+    squarePart a g = N .mul (gateShare N ps l r a g) (N .sub (gateOwn N l r g) (gateOther N l r g))
+
+    tabled : (a : ℕ) (g : Gate) (weight : ℕ) (left right : Wire) (c : Counts) → weight ≡ getD ps a 0
+        → Reads l (g .left) left → Reads r (g .right) right → Counted N (g .kind) weight left right c
+        → (c .zeros ≡ zeroPart a g) × (c .ones ≡ onePart a g) × (c .squares ≡ squarePart a g)
+    tabled a g weight left right c w hl hr h =
+        let z = h .zeros in
+        let o = h .ones in
+        let s = h .squares in
+        let a₁ = hl .share in
+        let a₂ = hl .own in
+        let a₃ = hl .other in
+        let a₄ = hl .one in
+        let b₁ = hr .share in
+        let b₂ = hr .own in
+        let b₃ = hr .other in
+        let b₄ = hr .one in
+        (cc, cc, cc)
+
+  -- THE SUMS OVER THE GATES PASSED
+  pub record Passed (ws ps : List ℕ) (l r : Side ℕ) (zeros ones squares a : ℕ) : Type 0 where
+    pub within : a ≤ length ws / 3
+    pub zeros-are : zeros ≡ sumOn N (zeroPart ps l r) (length ws / 3) ws a
+    pub ones-are : ones ≡ sumOn N (onePart ps l r) (length ws / 3) ws a
+    pub squares-are : squares ≡ sumOn N (squarePart ps l r) (length ws / 3) ws a
+
+  pub start : (ws ps : List ℕ) (l r : Side ℕ) → Passed ws ps l r 0 0 0 (length ws / 3)
+  start ws ps l r = record {
+    within = omega arith;
+    zeros-are = sum-none N (zeroPart ps l r) (length ws / 3) ws;
+    ones-are = sum-none N (onePart ps l r) (length ws / 3) ws;
+    squares-are = sum-none N (squarePart ps l r) (length ws / 3) ws;
+  }
+
+  pub step : (ws ps : List ℕ) (l r : Side ℕ) (zeros ones squares a weight : ℕ) (left right : Wire) (c : Counts) (zeros′ ones′ squares′ : ℕ)
+      → Passed ws ps l r zeros ones squares a → 0 < a → weight ≡ getD ps (a - 1) 0
+      → Reads l (getD ws (3 * (a - 1) + 1) 0) left → Reads r (getD ws (3 * (a - 1) + 2) 0) right
+      → Counted N (getD ws (3 * (a - 1)) 0) weight left right c
+      → zeros′ ≡ N .add (c .zeros) zeros → ones′ ≡ N .add (c .ones) ones → squares′ ≡ N .add (c .squares) squares
+      → Passed ws ps l r zeros′ ones′ squares′ (a - 1)
+  step ws ps l r zeros ones squares a weight left right c zeros′ ones′ squares′ h more w hl hr hc ez eo es =
+      let n = length ws / 3 in
+      let within = h .within in
+      let parts = tabled ps l r (a - 1) (gateAt ws (a - 1)) weight left right c w hl hr hc in
+      record {
+        within = omega arith;
+        zeros-are = ez ∙ sum-step N (zeroPart ps l r) n ws a (c .zeros) zeros more within (parts .0) (h .zeros-are);
+        ones-are = eo ∙ sum-step N (onePart ps l r) n ws a (c .ones) ones more within (parts .1) (h .ones-are);
+        squares-are = es ∙ sum-step N (squarePart ps l r) n ws a (c .squares) squares more within (parts .2) (h .squares-are);
+      }
+
+  pub end : (ws ps : List ℕ) (l r : Side ℕ) (zeros ones squares a less middle : ℕ) → Passed ws ps l r zeros ones squares a → a ≡ 0
+      → less ≡ N .sub ones zeros → middle ≡ N .sub less squares
+      → zeros ∷ middle ∷ squares ∷ [] ≡ sumsOf N ps l r (gatesIn ws)
+  unfolding threeSums
+  end ws ps l r zeros ones squares a less middle h e el em =
+      let n = length ws / 3 in
+      let all : (x : ℕ → Gate → ℕ) (s : ℕ) → s ≡ sumOn N x n ws a → s ≡ sumFrom N x 0 (gatesIn ws) =
+      λ x s q. q ∙ ap (sumOn N x n ws) e ∙ sum-all N x n ws in
+      let z = all (zeroPart ps l r) zeros (h .zeros-are) in
+      let o = all (onePart ps l r) ones (h .ones-are) in
+      let s = all (squarePart ps l r) squares (h .squares-are) in
+      cc

@@ -1,0 +1,123 @@
+-- `by_gates` meets its contract. The loop keeps `Passed`: the three sums over the gates passed, from the last on. The measure is the number of
+-- gates to come.
+-- Assumes nothing.
+use borrow.Author.Needs.{needs}
+use Rattle.field.specs.Modulus.{modulus}
+use Rattle.sums.specs.Wire.{side}
+use Rattle.sums.proofs.Counting.{Passed, start, step, end}
+use Rattle.sums.proofs.by_gates.Statement.{statement}
+use Rattle.sums.proofs.by_gates.Tie as tie
+
+abbrev Inv-loop : tie.InvT-loop
+Inv-loop f gates weights lshares ltable lcut rshares rtable rcut zeros₀ ones₀ squares₀ a₀ zeros ones squares a =
+    Passed (modulus f) gates weights (side lshares ltable lcut) (side rshares rtable rcut) zeros ones squares a
+
+abbrev μ-loop : tie.MeasureT-loop
+μ-loop f gates weights lshares ltable lcut rshares rtable rcut zeros₀ ones₀ squares₀ a₀ zeros ones squares a = a
+
+loop-holds : tie.Need-loop-holds Inv-loop μ-loop
+loop-holds c = start _ _ _ _ _
+
+sub-a : tie.Need-sub-a Inv-loop μ-loop
+sub-a c = search needs
+
+mul-g : tie.Need-mul-g Inv-loop μ-loop
+mul-g c = search needs
+
+add-read-wire : tie.Need-add-read-wire Inv-loop μ-loop
+add-read-wire c = search needs
+
+mul-read-wire : tie.Need-mul-read-wire Inv-loop μ-loop
+mul-read-wire c = search needs
+
+shared-slice-read-read-wire : tie.Need-shared-slice-read-read-wire Inv-loop μ-loop
+shared-slice-read-read-wire c = search needs
+
+read-wire-requires : tie.Need-read-wire-requires Inv-loop μ-loop
+read-wire-requires c κs = search needs
+
+add-read-wire-2 : tie.Need-add-read-wire-2 Inv-loop μ-loop
+add-read-wire-2 c = search needs
+
+mul-read-wire-2 : tie.Need-mul-read-wire-2 Inv-loop μ-loop
+mul-read-wire-2 c = search needs
+
+shared-slice-read-read-wire-2 : tie.Need-shared-slice-read-read-wire-2 Inv-loop μ-loop
+shared-slice-read-read-wire-2 c = search needs
+
+read-wire-requires-2 : tie.Need-read-wire-requires-2 Inv-loop μ-loop
+read-wire-requires-2 c κs = search needs
+
+mul-count-gate : tie.Need-mul-count-gate Inv-loop μ-loop
+mul-count-gate c = search needs
+
+shared-slice-read-count-gate : tie.Need-shared-slice-read-count-gate Inv-loop μ-loop
+shared-slice-read-count-gate c = search needs
+
+entry-requires : tie.Need-entry-requires Inv-loop μ-loop
+entry-requires c κs = search needs
+
+count-gate-requires : tie.Need-count-gate-requires Inv-loop μ-loop
+count-gate-requires c κs = search needs
+
+add-requires : tie.Need-add-requires Inv-loop μ-loop
+add-requires c κs = search needs
+
+add-requires-2 : tie.Need-add-requires-2 Inv-loop μ-loop
+add-requires-2 c κs = search needs
+
+add-requires-3 : tie.Need-add-requires-3 Inv-loop μ-loop
+add-requires-3 c κs = search needs
+
+loop-less : tie.Need-loop-less Inv-loop μ-loop
+loop-less c = search needs
+
+loop-again : tie.Need-loop-again Inv-loop μ-loop
+loop-again c =
+    let counted = c .before .before .before in
+    let weighed = counted .before in
+    let second = weighed .before .before in
+    let first = second .before .before in
+    let here = first .before .before .before in
+    step _ _ _ _ _ _ _ _ _ (weighed .entry .result) (first .read-wire .result) (second .read-wire2 .result) (counted .count-gate .result) _ _ _
+    (here .loop .inv) (search needs) (weighed .entry .ensures) (first .read-wire .ensures) (second .read-wire2 .ensures)
+    (counted .count-gate .ensures) (c .before .before .add .ensures) (c .before .add2 .ensures) (c .add3 .ensures)
+
+sub-requires : tie.Need-sub-requires Inv-loop μ-loop
+sub-requires c κs = search needs
+
+sub-requires-2 : tie.Need-sub-requires-2 Inv-loop μ-loop
+sub-requires-2 c κs = search needs
+
+returns : tie.Need-returns Inv-loop μ-loop
+returns c = end _ _ _ _ _ _ _ _ _ _ _ (c .before .before .before .loop .inv) (search needs) (c .before .sub .ensures) (c .sub2 .ensures)
+
+pub by-gates-spec : {M : Type 1} → statement M
+by-gates-spec =
+    tie.close
+    (tie.spec
+    Inv-loop
+    μ-loop
+    loop-holds
+    sub-a
+    mul-g
+    add-read-wire
+    mul-read-wire
+    shared-slice-read-read-wire
+    read-wire-requires
+    add-read-wire-2
+    mul-read-wire-2
+    shared-slice-read-read-wire-2
+    read-wire-requires-2
+    mul-count-gate
+    shared-slice-read-count-gate
+    entry-requires
+    count-gate-requires
+    add-requires
+    add-requires-2
+    add-requires-3
+    loop-less
+    loop-again
+    sub-requires
+    sub-requires-2
+    returns)

@@ -1,0 +1,92 @@
+-- `sum_message` meets its contract: the clipped numbers of coordinates take the coordinates that are fixed, and the part that is lent is the
+-- weight list.
+-- Assumes nothing.
+use mathlib.Core.Path.{_≡_, ap, _∙_}
+use native.Mathlib.Nat.{min-le-right}
+use native.Mathlib.Omega.{arith}
+use lib.ListN.{length, take}
+use Rattle.field.specs.Modulus.{modulus, numbers}
+use Rattle.tables.specs.Table.{maxWidth}
+use Rattle.circuit.specs.Limits.{maxExponent}
+use Rattle.circuit.specs.Circuit.{widthOf}
+use Rattle.sumcheck.specs.Gatewise.{sumByGates}
+use Rattle.summand.specs.Gates.{gatesIn}
+use Rattle.summand.proofs.Rows.{length-row}
+use Rattle.sums.specs.Round.{fixedFirst, fixedSecond}
+use borrow.Author.Needs.{needs}
+use Rattle.sums.proofs.Fronts.{width-within, lent, round-is}
+use Rattle.sums.proofs.sum_message.Statement.{statement}
+use Rattle.sums.proofs.sum_message.Tie as tie
+
+least-requires : tie.Need-least-requires
+least-requires c κs = search needs
+
+least-requires-2 : tie.Need-least-requires-2
+least-requires-2 c κs = search needs
+
+sub-least : tie.Need-sub-least
+sub-least c = search needs
+
+least-requires-3 : tie.Need-least-requires-3
+least-requires-3 c κs = search needs
+
+least-requires-4 : tie.Need-least-requires-4
+least-requires-4 c κs = search needs
+
+cast-width : tie.Need-cast-width
+cast-width c = search needs
+
+width-requires : tie.Need-width-requires
+width-requires c κs = search needs
+
+weights-requires : tie.Need-weights-requires
+weights-requires c κs = search needs
+
+array-copy-out-u : tie.Need-array-copy-out-u
+array-copy-out-u c = search needs
+
+array-copy-out-v : tie.Need-array-copy-out-v
+array-copy-out-v c = search needs
+
+array-share-prefix-weights : tie.Need-array-share-prefix-weights
+array-share-prefix-weights c =
+    width-within _ _ _ _ (c .before .before .weights .ensures) (c .before .before .before .width .ensures)
+
+slice-aggregate-by-points : tie.Need-slice-aggregate-by-points
+slice-aggregate-by-points c =
+    lent _ _ (width-within _ _ _ _ (c .before .before .before .weights .ensures) (c .before .before .before .before .width .ensures))
+
+by-points-requires : tie.Need-by-points-requires
+by-points-requires c κs = search needs
+
+returns : tie.Need-returns
+returns c =
+    let start = c .before .before .before .before .before .before .before .before .before .before .before .before in
+    let args = start .args in
+    let exponent = c .before .before .before .before .before .before .before .before .before .least .ensures in
+    let size : length (args .point) ≡ 8 = search needs in
+    round-is (modulus (args .f)) (gatesIn (args .gates .now)) (args .point) (args .above) (take maxWidth (args .values .now)) (args .t6) _ (args .fixed)
+    _ _ _ _ (c .by-points .result) size (length-row 2 8 (args .t6) _ 0 (start .good .1 .1 .1 .1 .1 .0) (omega arith))
+    (omega (arith, exponent, min-le-right (args .k) maxExponent)) (c .before .before .before .before .before .before .before .before .least2 .ensures) (c .before .before .before .before .before .before .before .least3 .ensures)
+    (c .before .before .before .before .before .width .ensures ∙ ap widthOf (c .before .before .before .before .before .before .least4 .ensures)) (c .before .before .before .before .weights .ensures) (c .by-points .ensures)
+    ∙ ap (λ k. sumByGates (numbers (args .f)) k (gatesIn (args .gates .now)) (take (args .above) (args .point)) (take maxWidth (args .values .now))
+    (fixedFirst k (args .fixed) (args .t6)) (fixedSecond k (args .fixed) (args .t6))) exponent
+
+pub sum-message-spec : {M : Type 1} → statement M
+sum-message-spec =
+    tie.close
+    (tie.spec
+    least-requires
+    least-requires-2
+    sub-least
+    least-requires-3
+    least-requires-4
+    cast-width
+    width-requires
+    weights-requires
+    array-copy-out-u
+    array-copy-out-v
+    array-share-prefix-weights
+    slice-aggregate-by-points
+    by-points-requires
+    returns)

@@ -1,0 +1,214 @@
+// The honest message of a sum round, modulo a field's modulus, in one pass over the gates. All of it is right for any words.
+use extension::MAX_COORDINATES;
+use field::Field;
+use tables::MAX_WIDTH;
+ghost use mathlib.Core.Path.{_≡_};
+ghost use mathlib.Core.List.{[]};
+ghost use Prim.Native.Nat.{_≤_, min};
+ghost use lib.Dec.{ltb, leb};
+ghost use lib.ListN.{take, getD};
+ghost use Rattle.field.specs.Modulus.{numbers};
+ghost use Rattle.tables.specs.Table.{maxWidth};
+ghost use Rattle.circuit.specs.Limits.{maxExponent};
+ghost use Rattle.sumcheck.specs.Gatewise.{sideOf, sumsOf, sumByGates};
+ghost use Rattle.summand.specs.Gates.{gatesIn};
+ghost use Rattle.sums.specs.Wire.{CutAt, Fits, side, Reads, Counted};
+ghost use Rattle.sums.specs.Round.{fixedFirst, fixedSecond};
+
+// How a wire's number is cut: its `free` last bits are for the coordinates not fixed, `size` is 2^free, and `half` half of it, or 0 where the
+// next coordinate is the other point's.
+struct Cut {
+    free: usize,
+    size: usize,
+    half: usize,
+}
+
+// What the tables of one point say of a wire: the weight of its first bits, the value at the others, the value with the first of these turned,
+// and whether that bit is 1.
+struct Wire {
+    share: u32,
+    own: u32,
+    other: u32,
+    one: bool,
+}
+
+// A gate's part in the sum over the gates whose bit is 0, in that over those whose bit is 1, and in that of the squares.
+struct Counts {
+    zeros: u32,
+    ones: u32,
+    squares: u32,
+}
+
+// The cut of a point with `fixed` of k coordinates fixed; `next` says whether the next coordinate is this point's.
+fn cut_at(k: usize, fixed: usize, next: bool) -> Cut
+    requires { ⌜ (fixed ≤ k) × (k ≤ maxExponent) ⌝ }
+    ensures { λ r. ⌜ CutAt k fixed next r ⌝ }
+{
+    let free = k - fixed;
+    let size = legality::width(free as u32);
+    if next {
+        return Cut {
+            free,
+            size,
+            half: size / 2,
+        };
+    }
+    Cut {
+        free,
+        size,
+        half: 0,
+    }
+}
+
+// An entry of a table, 0 past its end.
+fn entry(table: &[u32], i: usize) -> u32
+    ensures { λ r. ⌜ r ≡ getD (now (table .entry)) i 0 ⌝ }
+{
+    if i < table.len() {
+        return table[i];
+    }
+    0
+}
+
+// A wire, by the tables of one point.
+fn read_wire(shares: &[u32], table: &[u32], c: Cut, wire: u32) -> Wire
+    requires { ⌜ Fits c ⌝ }
+    ensures { λ r. ⌜ Reads (side (now (shares .entry)) (now (table .entry)) c) wire r ⌝ }
+{
+    let number = wire as usize;
+    let high = number >> c.free;
+    let low = number - high * c.size;
+    let up = low + c.half;
+    let turned = if up < c.size { up } else { up - c.size };
+    Wire {
+        share: entry(shares, high),
+        own: entry(table, low),
+        other: entry(table, turned),
+        one: turned < low,
+    }
+}
+
+// A gate, by its weight and its wires.
+fn count_gate(f: Field, kind: u32, weight: u32, l: Wire, r: Wire) -> Counts
+    ensures { λ c. ⌜ Counted (numbers f) kind weight l r c ⌝ }
+{
+    let share = f.mul(weight, f.mul(l.share, r.share));
+    let own = evaluation::gate_value(f, kind, l.own, r.own);
+    let other = evaluation::gate_value(f, kind, l.other, r.other);
+    let value = f.mul(share, own);
+    let squares = f.mul(share, f.sub(own, other));
+    if l.one || r.one {
+        return Counts {
+            zeros: 0,
+            ones: value,
+            squares,
+        };
+    }
+    Counts {
+        zeros: value,
+        ones: 0,
+        squares,
+    }
+}
+
+// The message from the tables: the gates' weights and the two sides, from the last gate to the first.
+fn by_gates(
+    f: Field,
+    gates: &[u32],
+    weights: &[u32],
+    lshares: &[u32],
+    ltable: &[u32],
+    lcut: Cut,
+    rshares: &[u32],
+    rtable: &[u32],
+    rcut: Cut,
+) -> [u32; 3]
+    requires { ⌜ Fits lcut × Fits rcut ⌝ }
+    ensures { λ m. ⌜ m ≡ sumsOf (numbers f) (now (weights .entry)) (side (now (lshares .entry)) (now (ltable .entry)) lcut) (side (now (rshares .entry)) (now (rtable .entry)) rcut) (gatesIn (now (gates .entry))) ⌝ }
+{
+    let mut zeros = Field::ZERO;
+    let mut ones = Field::ZERO;
+    let mut squares = Field::ZERO;
+    let mut a = gates.len() / 3;
+    while 0 < a {
+        a -= 1;
+        let g = 3 * a;
+        let left = read_wire(lshares, ltable, lcut, gates[g + 1]);
+        let right = read_wire(rshares, rtable, rcut, gates[g + 2]);
+        let counts = count_gate(f, gates[g], entry(weights, a), left, right);
+        zeros = f.add(counts.zeros, zeros);
+        ones = f.add(counts.ones, ones);
+        squares = f.add(counts.squares, squares);
+    }
+    [zeros, f.sub(f.sub(ones, zeros), squares), squares]
+}
+
+// The message from the two points: the first coordinates of each row are fixed, and there are 2^k values.
+fn by_points(
+    f: Field,
+    gates: &[u32],
+    weights: &[u32],
+    values: &[u32],
+    u: [u32; MAX_COORDINATES],
+    first: usize,
+    v: [u32; MAX_COORDINATES],
+    second: usize,
+    k: usize,
+) -> [u32; 3]
+    requires { ⌜ (first ≤ k) × (second ≤ k) × (k ≤ maxExponent) ⌝ }
+    ensures { λ m. ⌜ m ≡ sumsOf (numbers f) (now (weights .entry)) (sideOf (numbers f) k (take maxWidth (now (values .entry))) (take first u) (ltb first k)) (sideOf (numbers f) k (take maxWidth (now (values .entry))) (take second v) (leb k first)) (gatesIn (now (gates .entry))) ⌝ }
+{
+    let n = lists::least(MAX_WIDTH, values.len());
+    let lcut = cut_at(k, first, first < k);
+    let rcut = cut_at(k, second, k <= first);
+    let lshares = tables::weights(f, u, first);
+    let rshares = tables::weights(f, v, second);
+    let ltable = tables::folded(f, values, u, first);
+    let rtable = tables::folded(f, values, v, second);
+    by_gates(
+        f,
+        gates,
+        weights,
+        &lshares[..legality::width(first as u32)],
+        &ltable[..n >> first],
+        lcut,
+        &rshares[..legality::width(second as u32)],
+        &rtable[..n >> second],
+        rcut,
+    )
+}
+
+// The three coefficients, constant first, of the sum round with `fixed` coordinates fixed, of a layer of 2^k values under the gates. The
+// point is its row's first `above` words, and the rows of `points` hold u and v. A number of coordinates above the length of a row stands
+// for all of it, and of more than MAX_WIDTH values the first MAX_WIDTH count.
+pub fn sum_message(
+    f: Field,
+    gates: &[u32],
+    point: [u32; MAX_COORDINATES],
+    above: usize,
+    values: &[u32],
+    points: [[u32; MAX_COORDINATES]; 2],
+    k: usize,
+    fixed: usize,
+) -> [u32; 3]
+    ensures { λ r. ⌜ r ≡ sumByGates (numbers f) (min k maxExponent) (gatesIn (now (gates .entry))) (take above point) (take maxWidth (now (values .entry))) (fixedFirst (min k maxExponent) fixed points) (fixedSecond (min k maxExponent) fixed points) ⌝ }
+{
+    let exponent = lists::least(k, MAX_COORDINATES);
+    let first = lists::least(fixed, exponent);
+    let second = lists::least(fixed - first, exponent);
+    let width = legality::width(lists::least(above, MAX_COORDINATES) as u32);
+    let weights = tables::weights(f, point, above);
+    let u = points[0];
+    let v = points[1];
+    by_points(
+        f,
+        gates,
+        &weights[..width],
+        values,
+        u,
+        first,
+        v,
+        second,
+        exponent,
+    )
+}
