@@ -9,6 +9,7 @@ that shares nothing with this repository. Cases of other operations are passed o
 
 Cases at the edges are added. Their answers come from the functions load, evaluate, read, check, opening and step below, which follow the
 specification word by word; they must first give the answer of every case in VECTORS. No answer comes from a program of this repository.
+One case more is a count: on how many of all coin lists the whole check accepts the messages of C7.
 
 The form of a case stands at the top of each program, that of a printed buffer in the crate cases.
 """
