@@ -1,17 +1,20 @@
 #!/usr/bin/env python3
-"""Makes the cases of the programs cases_circuit and cases_xdr: what they read (stdin) and what they must print (stdout).
+"""Makes the cases of the programs cases_circuit, cases_xdr and cases_check: what they read (stdin) and what they must print (stdout).
 
     tests/make_cases.py VECTORS
 
-VECTORS has a case of an operation on each line, a JSON object {"op", "args", "answer", "after", "note"}: the lists, with the buffer as
-it is before the call, the expected answer, and the buffer after it; bytes are hex. It comes from an implementation that shares
-nothing with this repository. Cases of other operations are passed over.
+VECTORS has a case of an operation on each line, a JSON object {"op", "args", "answer", "after", "note"}: the lists, with the buffer or
+record as it is before the call, the expected answer, and the buffer or record after it; bytes are hex. It comes from an implementation
+that shares nothing with this repository. Cases of other operations are passed over.
 
-Cases at the edges are added. Their answers come from the functions load, evaluate and read below, which follow the specification
-word by word; they must first give the answer of every case in VECTORS. No answer comes from a program of this repository.
+Cases at the edges are added. Their answers come from the functions load, evaluate, read, check, opening and step below, which follow the
+specification word by word; they must first give the answer of every case in VECTORS. No answer comes from a program of this repository.
+One case more is a count: on how many of all coin lists the whole check accepts the messages of C7.
 
 The form of a case stands at the top of each program, that of a printed buffer in the crate cases.
 """
+import copy
+import itertools
 import json
 import pathlib
 import sys
@@ -19,9 +22,9 @@ import sys
 CRATES = pathlib.Path(__file__).resolve().parent.parent / "crates"
 PRIMES = (13, 65537, 2147483647, 4294967291)
 SENTINEL = 4242424242
-# The limits of the programs: bytes of all cases, and words of a list.
-MAX_BYTES = 524288
-MAX_WORDS = {"cases_circuit": 16384, "cases_xdr": 65536}
+FIGURES = ("layer", "round", "claim", "open")
+# The limits of the programs: bytes of a case, words of its first list, and of the others.
+LIMITS = {"cases_circuit": (65536, 16384, 16384), "cases_xdr": (262144, 65536, 0), "cases_check": (65536, 16384, 1024)}
 
 
 # The specification. A refusal is its number, 0 where there is none.
@@ -58,25 +61,172 @@ def load(circuit):
     return 0
 
 
-def evaluate(circuit, inputs, buf):
-    """The answer and the buffer after it."""
+def lists_cause(circuit, inputs):
+    """The refusals 1 to 9."""
     cause = load(circuit)
     if cause:
-        return ["refused", cause], buf
-    p, depth = circuit[:2]
-    if len(inputs) != 2 ** circuit[1 + depth]:
-        return ["refused", 8], buf
-    if any(word >= p for word in inputs):
-        return ["refused", 9], buf
-    values = [inputs]
+        return cause
+    if len(inputs) != 2 ** exponent(circuit, circuit[1]):
+        return 8
+    return 9 if any(word >= circuit[0] for word in inputs) else 0
+
+
+def values_of(circuit, inputs):
+    """The values of layers 0 to D."""
+    p, values = circuit[0], [inputs]
     for gates in reversed(layers(circuit)):
         below = values[0]
         operations = {0: lambda x, y: 0, 1: lambda x, y: (x + y) % p, 2: lambda x, y: x * y % p}
         values.insert(0, [operations[kind](below[left], below[right]) for kind, left, right in gates])
-    words = sum(values, [])
+    return values
+
+
+def evaluate(circuit, inputs, buf):
+    """The answer and the buffer after it."""
+    cause = lists_cause(circuit, inputs)
+    if cause:
+        return ["refused", cause], buf
+    words = sum(values_of(circuit, inputs), [])
     if len(buf) < len(words):
         return ["refused", 10], buf
     return ["value", words[0]], words + buf[len(words):]
+
+
+def exponent(circuit, layer):
+    return circuit[1 + layer] if layer else 0
+
+
+def places(circuit):
+    """The layer and the round of each message."""
+    return [(layer, turn) for layer in range(1, circuit[1] + 1) for turn in range(2 * exponent(circuit, layer) + 1)]
+
+
+def message_length(circuit, layer, turn):
+    k = exponent(circuit, layer)
+    return k + 1 if turn == 2 * k else 3
+
+
+def value_at(coefficients, x, p):
+    return sum(c * pow(x, j, p) for j, c in enumerate(coefficients)) % p
+
+
+def weight(index, point, p):
+    product = 1
+    for j, z in enumerate(point):
+        bit = index >> (len(point) - 1 - j) & 1
+        product = product * (z if bit else 1 - z) % p
+    return product
+
+
+def extension(values, point, p):
+    return sum(value * weight(b, point, p) for b, value in enumerate(values)) % p
+
+
+def own_coins(circuit, layer, coins):
+    """Of all coins so far those of a layer: the coordinates u and v, and the line's coin."""
+    k, start = exponent(circuit, layer), sum(2 * exponent(circuit, i) + 1 for i in range(1, layer))
+    return coins[start:start + k], coins[start + k:start + 2 * k], coins[start + 2 * k:start + 2 * k + 1]
+
+
+def point_at(circuit, layer, coins):
+    """The point at a layer: the empty one, or the point of the last line at its coin."""
+    if layer == 1:
+        return []
+    u, v, t = own_coins(circuit, layer - 1, coins)
+    return [(x + t[0] * (y - x)) % circuit[0] for x, y in zip(u, v)]
+
+
+def line_claim(circuit, layer, coins, x, y):
+    """The summand with x for V(u) and y for V(v)."""
+    p, point = circuit[0], point_at(circuit, layer, coins)
+    u, v, _ = own_coins(circuit, layer, coins)
+    wiring = [0, 0, 0]
+    for a, (kind, b, c) in enumerate(layers(circuit)[layer - 1]):
+        wiring[kind] += weight(a, point, p) * weight(b, u, p) * weight(c, v, p)
+    return (wiring[1] * (x + y) + wiring[2] * x * y) % p
+
+
+def judge(circuit, layer, turn, coins, claim, message):
+    """The refusals 14 to 17 of a message, given the coins before it."""
+    p = circuit[0]
+    if len(message) != message_length(circuit, layer, turn):
+        return 14
+    if any(word >= p for word in message):
+        return 15
+    ends = value_at(message, 0, p), value_at(message, 1, p)
+    if turn < 2 * exponent(circuit, layer):
+        return 0 if sum(ends) % p == claim else 16
+    return 0 if line_claim(circuit, layer, coins, *ends) == claim else 17
+
+
+def last_cause(circuit, inputs, coins, claim):
+    point = point_at(circuit, circuit[1] + 1, coins)
+    return 0 if extension(inputs, point, circuit[0]) == claim else 18
+
+
+def coins_cause(circuit, coins):
+    """The refusals 11 and 12."""
+    if len(coins) != len(places(circuit)):
+        return 11
+    return 12 if any(coin >= circuit[0] for coin in coins) else 0
+
+
+def opening_cause(circuit, inputs, output, coins):
+    cause = lists_cause(circuit, inputs)
+    if cause:
+        return cause
+    return 13 if output >= circuit[0] else coins_cause(circuit, coins)
+
+
+def check(circuit, inputs, output, coins, messages):
+    cause = opening_cause(circuit, inputs, output, coins)
+    if cause:
+        return ["refused", cause]
+    if len(messages) != sum(message_length(circuit, *place) for place in places(circuit)):
+        return ["refused", 14]
+    claim, at = output, 0
+    for j, place in enumerate(places(circuit)):
+        message = messages[at:at + message_length(circuit, *place)]
+        at += len(message)
+        cause = judge(circuit, *place, coins[:j], claim, message)
+        if cause:
+            return ["refused", cause]
+        claim = value_at(message, coins[j], circuit[0])
+    cause = last_cause(circuit, inputs, coins, claim)
+    return ["refused", cause] if cause else ["accepted"]
+
+
+def opening(circuit, inputs, output, coins, record):
+    """The answer and the record after it."""
+    cause = opening_cause(circuit, inputs, output, coins)
+    if cause:
+        return ["refused", cause], record
+    return ["opened"], {"layer": 1, "round": 0, "claim": output, "open": True}
+
+
+def fits(circuit, record):
+    layer, turn = record["layer"], record["round"]
+    return record["open"] and (layer, turn) in places(circuit) and record["claim"] < circuit[0]
+
+
+def step(circuit, inputs, coins, record, message):
+    """The answer and the record after it."""
+    cause = lists_cause(circuit, inputs) or coins_cause(circuit, coins)
+    if not cause and not fits(circuit, record):
+        cause = 19
+    if cause:
+        return ["refused", cause], record
+    place, ended = (record["layer"], record["round"]), dict(record, open=False)
+    j = places(circuit).index(place)
+    cause = judge(circuit, *place, coins[:j], record["claim"], message)
+    if cause:
+        return ["refused", cause], ended
+    claim = value_at(message, coins[j], circuit[0])
+    if j + 1 < len(coins):
+        layer, turn = places(circuit)[j + 1]
+        return ["go on", coins[j]], {"layer": layer, "round": turn, "claim": claim, "open": True}
+    cause = last_cause(circuit, inputs, coins, claim)
+    return (["refused", cause] if cause else ["accepted"]), ended
 
 
 def read(number, data, buf):
@@ -99,12 +249,28 @@ def read(number, data, buf):
 
 
 def answer(op, args):
+    """The answer, and the buffer or record after it."""
+    circuit, inputs, coins = args.get("circuit"), args.get("input"), args.get("coins")
     if op == "load":
-        cause = load(args["circuit"])
-        return (["refused", cause] if cause else ["legal"]), None
+        cause = load(circuit)
+        return (["refused", cause] if cause else ["legal"]), {}
+    if op == "check":
+        return check(circuit, inputs, args["output"], coins, args["messages"]), {}
+    if op == "count":
+        accepted = [check(circuit, inputs, args["output"], list(drawn), args["messages"]) == ["accepted"]
+                    for drawn in itertools.product(range(13), repeat=3)]
+        return ["accepted on", sum(accepted)], {}
+    if op == "open":
+        given, after = opening(circuit, inputs, args["output"], coins, args["record"])
+        return given, {"record": after}
+    if op == "step":
+        given, after = step(circuit, inputs, coins, args["record"], args["message"])
+        return given, {"record": after}
     if op == "evaluate":
-        return evaluate(args["circuit"], args["input"], args["buf"])
-    return read(args["number"], bytes.fromhex(args["bytes"]), args["buf"])
+        given, after = evaluate(circuit, inputs, args["buf"])
+    else:
+        given, after = read(args["number"], bytes.fromhex(args["bytes"]), args["buf"])
+    return given, {"buf": after}
 
 
 # The edges, each an operation and its lists.
@@ -233,7 +399,266 @@ def read_edges():
     yield 4, arrays(*([draw.below(2 ** 32) for _ in range(11541)] for _ in range(4))), 4 * 11541
 
 
+# Transcripts, from which the edges of check, open and step are made: circuit, input, output, coins, and the list of messages.
+
+def times(f, g, p):
+    """The product of two coefficient lists."""
+    product = [0] * (len(f) + len(g) - 1)
+    for (i, x), (j, y) in itertools.product(enumerate(f), enumerate(g)):
+        product[i + j] = (product[i + j] + x * y) % p
+    return product
+
+
+def plus(f, g, p):
+    return [(x + y) % p for x, y in itertools.zip_longest(f, g, fillvalue=0)]
+
+
+def fixed(table, point, p):
+    """A table of coefficient lists, with its first variables set to the point's coordinates, coefficient lists too."""
+    for z in point:
+        half = len(table) // 2
+        table = [plus(times(plus([1], times([-1], z, p), p), low, p), times(z, high, p), p)
+                 for low, high in zip(table[:half], table[half:])]
+    return table
+
+
+def honest_sum(p, gates, table, k, point, own):
+    """A sum round's message: the current coordinate is the variable, and a gate counts where those after it are its wires' bits."""
+    here, total = [[z] for z in own] + [[0, 1]], [0, 0, 0]
+    left, right = fixed(table, here[:k], p), fixed(table, here[k:], p)
+    for a, (kind, b, c) in enumerate(gates):
+        term = [weight(a, point, p)]
+        for j, z in enumerate(here):
+            term = times(term, z if (b << k | c) >> (2 * k - 1 - j) & 1 else plus([1], times([-1], z, p), p), p)
+        x, y = left[b % len(left)], right[c % len(right)]
+        total = plus(total, times(term, {0: [0], 1: plus(x, y, p), 2: times(x, y, p)}[kind], p), p)
+    return total
+
+
+def honest(circuit, inputs, coins):
+    """The honest messages."""
+    p, values, messages = circuit[0], values_of(circuit, inputs), []
+    for j, (layer, turn) in enumerate(places(circuit)):
+        k, table = exponent(circuit, layer), [[value] for value in values[layer]]
+        u, v, _ = own_coins(circuit, layer, coins[:j])
+        if turn < 2 * k:
+            messages.append(honest_sum(p, layers(circuit)[layer - 1], table, k, point_at(circuit, layer, coins), u + v))
+        else:
+            messages.append(fixed(table, [[x, (y - x) % p] for x, y in zip(u, v)], p)[0])
+    return messages
+
+
+def transcript(circuit, inputs, coins):
+    """The honest transcript."""
+    return circuit, inputs, values_of(circuit, inputs)[0][0], coins, honest(circuit, inputs, coins)
+
+
+def some_transcript(seed, p, exponents, special=(0, 1, -1)):
+    """An honest transcript of a circuit of these exponents, with these coins among others."""
+    draw = Draw(seed)
+    circuit, inputs = circuit_of(draw, p, exponents, kinds=(1, 2)), inputs_for(draw, p, exponents)
+    choices = [lambda coin=coin: coin % p for coin in special] + 2 * [lambda: draw.below(p)]
+    return transcript(circuit, inputs, [choices[draw.below(len(choices))]() for _ in places(circuit)])
+
+
+def check_of(circuit, inputs, output, coins, messages):
+    return "check", {"circuit": circuit, "input": inputs, "output": output, "coins": coins, "messages": sum(messages, [])}
+
+
+def open_of(circuit, inputs, output, coins):
+    record = {"layer": 0, "round": 0, "claim": 0, "open": False}
+    return "open", {"circuit": circuit, "input": inputs, "output": output, "coins": coins, "record": record}
+
+
+def step_of(circuit, inputs, coins, record, message):
+    return "step", {"circuit": circuit, "input": inputs, "coins": coins, "record": record, "message": message}
+
+
+def session_of(circuit, inputs, output, coins, messages):
+    """The opening, and the steps: one for each message and one after the end, or one after a refused opening."""
+    first = open_of(circuit, inputs, output, coins)
+    yield first
+    record = answer(*first)[1]["record"]
+    for message in messages + messages[-1:] if record["open"] else messages[:1]:
+        following = step_of(circuit, inputs, coins, record, message)
+        yield following
+        record = answer(*following)[1]["record"]
+
+
+def worked():
+    """The specification's cases C1 to C12."""
+    circuit, inputs, coins, first, second, line = [13, 1, 1, 2, 0, 1], [3, 5], [4, 6, 9], [2, 8, 3], [0, 5, 12], [11, 4]
+    yield circuit, inputs, 2, coins, [first, second, line]
+    yield circuit, inputs, 2, coins, [[2, 8, 4], second, line]
+    yield circuit, inputs, 3, coins, [first, second, line]
+    for wrong in ([12, 4], [2, 9], [1, 8]):
+        yield circuit, inputs, 2, coins, [first, second, wrong]
+    for coin in (4, 5):
+        yield circuit, inputs, 3, [coin, 6, 9], [[10, 6, 3], second, line]
+    for coin, word in itertools.product((0, 6, 12), (6, 7)):
+        yield [13, 1, 0, 2, 0, 0], [7], 10, [coin], [[word]]
+    yield [13, 1, 0, 0, 0, 0], [7], 0, [5], [[7]]
+    yield [13, 1, 1, 2, 1, 0], inputs, 2, coins, [first, second, line]
+    yield circuit, inputs, 2, coins, [[15, 8, 3], second, line]
+
+
+def counts():
+    """The count over all coin lists of C7's messages, which may be 5 × 1 × 13^2."""
+    circuit, inputs, output, _, messages = list(worked())[6]
+    found = "count", check_of(circuit, inputs, output, [], messages)[1]
+    assert answer(*found)[0][1] <= 845
+    yield found
+
+
+def shapes():
+    """Circuits of all primes and of small and large widths and depths, with honest messages and with a false output that the first
+    message fits."""
+    for p in PRIMES:
+        for exponents in ([0], [1], [2], [0, 0], [1, 0], [0, 1], [2, 1], [1, 2, 0], [3]):
+            circuit, inputs, output, coins, messages = some_transcript(p, p, exponents)
+            yield circuit, inputs, output, coins, messages
+            x, y, *others = messages[0] + [0]
+            yield circuit, inputs, (output + 1) % p, coins, [([x, (y + 1) % p] + others)[:len(messages[0])]] + messages[1:]
+        for gate in ([0, 0, 0], [1, 0, 1], [2, 0, 1]):
+            yield transcript([p, 1, 1] + gate, [p - 1, p - 1], [p - 1, p - 1, p - 1])
+    for depth in (16, 17):
+        yield transcript([13, depth] + [0] * depth + [2, 0, 0] * depth, [5], [7] * depth)
+    for k in (8, 9):
+        yield transcript([13, 1, k, 2, 0, 2 ** k - 1], [b % 13 for b in range(2 ** k)], [7] * (2 * k + 1))
+    yield some_transcript(8, PRIMES[3], [0, 8], special=())
+
+
+def words_at_p():
+    """A word p - 1, p or 2^32 - 1 in each place of an honest transcript."""
+    for p in PRIMES:
+        circuit, inputs, output, coins, messages = some_transcript(p, p, [1])
+        record = {"layer": 1, "round": 0, "claim": output, "open": True}
+        for word in (p - 1, p, 2 ** 32 - 1):
+            yield check_of(circuit, inputs, word, coins, messages)
+            yield open_of(circuit, inputs, word, coins)
+            yield step_of(circuit, inputs, coins, dict(record, claim=word), messages[0])
+            for changed in one_changed(coins, word):
+                yield check_of(circuit, inputs, output, changed, messages)
+                yield open_of(circuit, inputs, output, changed)
+                yield step_of(circuit, inputs, changed, record, messages[0])
+            for changed in one_changed(inputs, word):
+                yield check_of(circuit, changed, output, coins, messages)
+                yield open_of(circuit, changed, output, coins)
+                yield step_of(circuit, changed, coins, record, messages[0])
+            for changed in one_changed(messages[0], word):
+                yield step_of(circuit, inputs, coins, record, changed)
+            for changed in one_changed(sum(messages, []), word):
+                yield check_of(circuit, inputs, output, coins, [changed])
+
+
+def one_changed(numbers, word):
+    for place in range(len(numbers)):
+        yield numbers[:place] + [word] + numbers[place + 1:]
+
+
+def lengths():
+    """Coins, messages and a step's message of wrong lengths, none among them."""
+    for exponents in ([1, 1], [0, 2]):
+        circuit, inputs, output, coins, messages = some_transcript(14, PRIMES[2], exponents)
+        total = sum(messages, [])
+        for count in (0, 1, len(coins) - 1, len(coins) + 1):
+            yield check_of(circuit, inputs, output, (coins + [1])[:count], messages)
+            yield open_of(circuit, inputs, output, (coins + [1])[:count])
+        for count in (0, 1, len(total) - 1, len(total) + 1):
+            yield check_of(circuit, inputs, output, coins, [(total + [1])[:count]])
+        _, *steps, _ = session_of(circuit, inputs, output, coins, messages)
+        for op, args in steps:
+            for count in range(len(args["message"]) + 2):
+                yield op, dict(args, message=(args["message"] + [0])[:count])
+
+
+def records():
+    """Records at and past the ends of a circuit, with a message that fits the claim in a sum round."""
+    for exponents in ([1, 1], [0, 2]):
+        circuit, inputs, _, coins, messages = some_transcript(19, PRIMES[2], exponents)
+        p, top = circuit[0], 2 ** 32 - 1
+        for place in itertools.product((0, 1, 2, 3, top), (0, 1, 2, 3, 4, 5, top)):
+            within = place in places(circuit)
+            line = within and place[1] == 2 * exponent(circuit, place[0])
+            for claim in (0, p - 1, p, top) if within else (0,):
+                record = {"layer": place[0], "round": place[1], "claim": claim, "open": True}
+                message = messages[places(circuit).index(place)] if line else [claim % p, -claim % p, 0]
+                yield step_of(circuit, inputs, coins, record, message)
+                yield step_of(circuit, inputs, coins, dict(record, open=False), message)
+
+
+# Faults: changes of an operation's lists, each with the refusal that it earns.
+
+def put(name, place, word):
+    return lambda args: args[name].__setitem__(place, word)
+
+
+def more(name):
+    return lambda args: args[name].append(0)
+
+
+def fewer(name):
+    return lambda args: args[name].pop()
+
+
+def next_word(name, place):
+    return lambda args: put(name, place, (args[name][place] + 1) % args["circuit"][0])(args)
+
+
+def orders():
+    """Each fault alone, and each two faults of different numbers, which earn the number that comes first in the operation's order."""
+    p, lists = PRIMES[2], some_transcript(10, PRIMES[2], [1, 1], special=())
+    first, *steps = session_of(*lists)
+    legal = [(1, lambda args: args["circuit"].__delitem__(slice(1, None))), (2, put("circuit", 0, 14)), (3, put("circuit", 1, 17)),
+             (4, put("circuit", 2, 9)), (5, more("circuit")), (6, put("circuit", -3, 3)), (7, put("circuit", -1, 2)),
+             (8, fewer("input")), (9, put("input", 0, p))]
+    output = [(13, lambda args: args.update(output=p))]
+    coins = [(11, more("coins")), (11, fewer("coins")), (12, put("coins", 0, p))]
+    record = [(19, put("record", *forged)) for forged in (("open", False), ("layer", 0), ("layer", 3), ("round", 3), ("claim", p))]
+    messages = [(14, more("messages")), (14, fewer("messages")), (15, put("messages", 0, p)), (16, next_word("messages", 1)),
+                (17, next_word("messages", 7)), (18, next_word("input", 1))]
+    message = [(14, more("message")), (14, fewer("message")), (15, put("message", 0, p))]
+    for (op, args), found in (
+            (check_of(*lists), legal + output + coins + messages),
+            (first, legal + output + coins),
+            (steps[0], legal + coins + record + message + [(16, next_word("message", 1))]),
+            (steps[5], legal + coins + record + message + [(17, next_word("message", 1)), (18, next_word("input", 1))])):
+        pairs = [(x, [other, fault]) for (x, fault), (y, other) in itertools.combinations(found, 2) if x != y]
+        for number, changes in [(x, [fault]) for x, fault in found] + pairs:
+            changed = copy.deepcopy(args)
+            for change in changes:
+                change(changed)
+            assert answer(op, changed)[0] == ["refused", number]
+            yield op, changed
+
+
+def two_messages():
+    """A word p in one message and a difference in one: the message that comes first decides, and in the same message 15."""
+    circuit, inputs, output, coins, messages = some_transcript(10, PRIMES[2], [1, 1], special=())
+    p = circuit[0]
+    for i, j in itertools.product(range(len(messages)), repeat=2):
+        changed = copy.deepcopy(messages)
+        changed[j][1] = (changed[j][1] + 1) % p
+        changed[i][0] = p
+        found = check_of(circuit, inputs, output, coins, changed)
+        assert answer(*found)[0] == ["refused", 15 if i <= j else 17 if len(messages[j]) == 2 else 16]
+        yield found
+
+
+def largest_edges():
+    circuit, inputs = largest()
+    draw = Draw(272)
+    _, _, output, coins, messages = transcript(circuit, inputs, [draw.below(circuit[0]) for _ in places(circuit)])
+    yield check_of(circuit, inputs, output, coins, messages)
+    yield check_of(circuit, inputs, output, coins, messages[:-1] + [messages[-1][:-1] + [0]])
+    yield list(session_of(circuit, inputs, output, coins, messages))[-2]
+
+
 def edges():
+    for lists in itertools.chain(worked(), shapes()):
+        yield check_of(*lists)
+        yield from session_of(*lists)
+    yield from itertools.chain(counts(), words_at_p(), lengths(), records(), orders(), two_messages(), largest_edges())
     for circuit in load_edges():
         yield "load", {"circuit": circuit}
     for circuit, inputs, count in evaluate_edges():
@@ -263,13 +688,18 @@ def lent(buf):
 
 
 def case(op, args):
-    """The program that runs a case, and the case's bytes."""
+    """The program that runs a case, the lists that must fit into its arrays, and the case's bytes."""
     buf = args.get("buf", [])
     if op == "read":
         return "cases_xdr", [buf], word(args["number"]) + lent(buf) + part(bytes.fromhex(args["bytes"]))
-    number = {"load": 1, "evaluate": 2}[op]
     lists = [args["circuit"], args.get("input", [])]
-    return "cases_circuit", lists + [buf], word(number) + lent(buf) + b"".join(part(words(l)) for l in lists)
+    if op in ("load", "evaluate"):
+        number = {"load": 1, "evaluate": 2}[op]
+        return "cases_circuit", lists + [buf], word(number) + lent(buf) + b"".join(part(words(l)) for l in lists)
+    number = {"check": 1, "open": 2, "step": 3, "count": 4}[op]
+    numbers = [args["record"][name] for name in FIGURES] if op == "step" else [args["output"]]
+    lists += [args["coins"], args.get("messages", args.get("message", []))]
+    return "cases_check", lists, word(number) + b"".join(part(words(l)) for l in [numbers] + lists)
 
 
 def checksum(buf):
@@ -279,12 +709,15 @@ def checksum(buf):
     return h
 
 
-def line(expected, after):
+def line(op, expected, after):
     text = " ".join(map(str, expected))
-    if after is not None and len(after) <= 24:
-        text += " buffer" + "".join(f" {n}" for n in after)
-    elif after is not None:
-        text += f" buffer of {len(after)} from {after[0]} to {after[-1]} checksum {checksum(after)}"
+    buf, record = after.get("buf"), after.get("record")
+    if op == "step" or expected == ["opened"]:
+        text += f" record {record['layer']} {record['round']} {record['claim']} {'open' if record['open'] else 'ended'}"
+    elif buf is not None and len(buf) <= 24:
+        text += " buffer" + "".join(f" {n}" for n in buf)
+    elif buf is not None:
+        text += f" buffer of {len(buf)} from {buf[0]} to {buf[-1]} checksum {checksum(buf)}"
     return text + "\n"
 
 
@@ -294,21 +727,21 @@ def main():
         for text in vectors:
             vector = json.loads(text)
             op, args = vector["op"], vector["args"]
-            if op in ("load", "evaluate", "read"):
-                expected = vector["answer"], vector["after"].get("buf")
-                assert answer(op, args) == tuple(expected), text
+            if op in ("load", "evaluate", "read", "check", "open", "step"):
+                expected = vector["answer"], vector["after"]
+                assert answer(op, args) == expected, text
                 found.append((op, args, expected))
     given = len(found)
     found += [(op, args, answer(op, args)) for op, args in edges()]
-    stdin = {name: b"" for name in MAX_WORDS}
-    stdout = {name: "" for name in MAX_WORDS}
+    stdin = {name: b"" for name in LIMITS}
+    stdout = {name: "" for name in LIMITS}
     for op, args, expected in found:
         name, lists, data = case(op, args)
-        assert all(len(l) <= MAX_WORDS[name] for l in lists)
+        most = LIMITS[name]
+        assert len(data) <= most[0] and len(lists[0]) <= most[1] and all(len(l) <= most[2] for l in lists[1:])
         stdin[name] += part(data)
-        stdout[name] += line(*expected)
-    for name in MAX_WORDS:
-        assert len(stdin[name]) <= MAX_BYTES
+        stdout[name] += line(op, *expected)
+    for name in LIMITS:
         (CRATES / name / "stdin").write_bytes(stdin[name])
         (CRATES / name / "stdout").write_text(stdout[name], encoding="ascii")
         print(f"{name}: {stdout[name].count(chr(10))} cases, {len(stdin[name])} bytes")

@@ -7,8 +7,9 @@ use borrow.Author.Tests.{lt-leb, le-leb}
 use native.Mathlib.Numerals.{add-one}
 use native.Mathlib.Omega.{arith}
 use lib.ListN.{length, getD, take, drop, length-append, length-drop, drop-of-length-le}
-use lib.Seq.{drop-cons, take-nil}
+use lib.Seq.{drop-cons, take-nil, length-take-le}
 use Rattle.lists.proofs.Parts.{take-most}
+use Rattle.io.specs.Counts.{Counts}
 use Rattle.cases.specs.Words.{wordAt, firstWords}
 use Rattle.cases.specs.Parts.{partAt, pastAt}
 use Rattle.cases.specs.Checksum.{modulus, checksumFrom}
@@ -58,6 +59,12 @@ unfolding partAt pastAt
 part-here l at h =
     let size : pastAt l at - (at + 4) ≡ min (wordAt l at) (length (drop (at + 4) l)) = simp length-drop (omega arith) in
     ap (λ k. take k (drop (at + 4) l)) size ∙ take-most (wordAt l at) (drop (at + 4) l)
+
+-- what counts elements of a list counts those of the list with more behind it
+pub counts-front : (n : ℕ) (xs ys : List ℕ) → n ≤ length xs → Counts n (xs ++ ys)
+counts-front n xs ys h =
+    let short : n ≤ length (xs ++ ys) = simp length-append (omega arith) in
+    (short, sym (length-take-le n (xs ++ ys) short))
 
 -- THE CHECKSUM
 -- the next word goes into the checksum

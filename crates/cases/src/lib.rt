@@ -1,5 +1,6 @@
 // What the programs that run cases with expected answers share: reading a case from bytes, and printing what an operation answers.
 // Nothing here is required of the bytes: what would stand past their end reads as 0 or is left out, and the line printed then differs.
+use libc::STDIN_FILENO;
 use libc::STDOUT_FILENO;
 use refusal::Cause;
 ghost use mathlib.Core.Path.{_≡_};
@@ -71,6 +72,17 @@ pub fn part(bytes: &[u8], at: usize) -> &[u8]
     }
     let start = at + 4;
     &bytes[start..end]
+}
+
+// Reads the next part of standard input, without its length, to the front of a buffer, and answers how many bytes it read: 0 at the
+// input's end.
+pub fn next(buffer: &mut [u8]) -> usize
+    ensures { λ r. ⌜ Counts r (now (buffer .exit)) ⌝ }
+{
+    let mut size = [0u8; 4];
+    io::read_full(STDIN_FILENO, &mut size);
+    let count = lists::least(word(&size, 0) as usize, buffer.len());
+    io::read_full(STDIN_FILENO, &mut buffer[..count])
 }
 
 // Writes the words of the bytes to the front of a buffer, and answers how many: all, or as many as the buffer holds.

@@ -15,8 +15,10 @@ use refusal::Checked;
 
 const LOAD: u32 = 1;
 
-// Bytes enough for all cases, and words enough for the longest lists of one.
-const MAX_BYTES: usize = 524288;
+// Cases enough for all, bytes enough for the longest, and words enough for its lists.
+const MAX_CASES: usize = 65536;
+
+const MAX_BYTES: usize = 65536;
 
 const MAX_WORDS: usize = 16384;
 
@@ -70,16 +72,13 @@ fn run(case: &[u8]) {
     io::write_all(STDOUT_FILENO, b"\n");
 }
 
-fn run_all(bytes: &[u8]) {
-    let mut at = 0;
-    while at < bytes.len() {
-        run(cases::part(bytes, at));
-        at = cases::past(bytes, at);
-    }
-}
-
 fn main() {
     let mut bytes = [0u8; MAX_BYTES];
-    let count = io::read_full(0, &mut bytes);
-    run_all(&bytes[..count]);
+    for _ in 0..MAX_CASES {
+        let count = cases::next(&mut bytes);
+        if count == 0 {
+            break;
+        }
+        run(&bytes[..count]);
+    }
 }

@@ -10,8 +10,10 @@
 use libc::STDOUT_FILENO;
 use xdr::Arrays;
 
-// Bytes enough for all cases, and words enough for the longest buffer of one.
-const MAX_BYTES: usize = 524288;
+// Cases enough for all, bytes enough for the longest, and words enough for its buffer.
+const MAX_CASES: usize = 65536;
+
+const MAX_BYTES: usize = 262144;
 
 const MAX_WORDS: usize = 65536;
 
@@ -48,16 +50,13 @@ fn run(case: &[u8]) {
     io::write_all(STDOUT_FILENO, b"\n");
 }
 
-fn run_all(bytes: &[u8]) {
-    let mut at = 0;
-    while at < bytes.len() {
-        run(cases::part(bytes, at));
-        at = cases::past(bytes, at);
-    }
-}
-
 fn main() {
     let mut bytes = [0u8; MAX_BYTES];
-    let count = io::read_full(0, &mut bytes);
-    run_all(&bytes[..count]);
+    for _ in 0..MAX_CASES {
+        let count = cases::next(&mut bytes);
+        if count == 0 {
+            break;
+        }
+        run(&bytes[..count]);
+    }
 }
