@@ -37,7 +37,7 @@ pub exponent-width : (c : List ℕ) (layer : ℕ) → LayerOf c layer → widthO
 exponent-width c layer h = width-of (exponentAt c layer) (exponent-small c layer h)
 
 -- the gates of the first layers, one layer more
-count-more : (k : ℕ) (ks : List ℕ) (i : ℕ) → i < length ks → gateCount k (take (suc i) ks) ≡ gateCount k (take i ks) + 2 ^ getD (k ∷ ks) i 0
+pub count-more : (k : ℕ) (ks : List ℕ) (i : ℕ) → i < length ks → gateCount k (take (suc i) ks) ≡ gateCount k (take i ks) + 2 ^ getD (k ∷ ks) i 0
 unfolding gateCount
 count-more k [] i l = absurd (not-suc-le-zero l)
 count-more k (k′ ∷ ks) zero l = omega arith

@@ -6,7 +6,7 @@ use mathlib.Core.List.{List}
 use native.Mathlib.Omega.{arith}
 use lib.ListN.{length, length-drop, length-take, take, drop, take-append-drop}
 use lib.Seq.{drop-drop, length-take-le}
-use Rattle.circuit.specs.Limits.{maxDepth, maxExponent}
+use Rattle.circuit.specs.Limits.{maxExponent}
 use Rattle.circuit.specs.Circuit.{depth, exponents, exponentAt, gatesOf, gatesAt}
 use Rattle.circuit.specs.Sized.{LayerOf, LegalCircuit}
 use Rattle.circuit.proofs.Legal.{gates-part}
@@ -46,9 +46,6 @@ module _ (c : List ℕ) (layer round : ℕ) (past : List ℕ) (h : AtRound c lay
 
   pub above-layer : LayerOf c (layer - 1)
   above-layer = let low : layer ≤ depth c = h .last in record { headed = h .legal .sized .headed; inside = omega arith }
-
-  pub low-layer : layer ≤ maxDepth
-  low-layer = let low : layer ≤ depth c = h .last in let flat = h .legal .sized .headed .shallow in omega arith
 
   -- the layer's own coins
   pub own-coins : length (fixed c layer past) ≡ round

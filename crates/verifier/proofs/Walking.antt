@@ -1,49 +1,37 @@
 -- The walk's two loops: what is left before a layer, or before a round, is the whole walk.
 -- Assumes nothing.
-use Prim.Native.Nat.{ℕ, zero, suc, _+_, _-_, _*_, _≤_, _<_}
+use Prim.Native.Nat.{ℕ, _+_, _-_, _*_, _≤_, _<_}
 use mathlib.Core.Path.{_≡_, sym, ap, _∙_, subst}
-use mathlib.Core.List.{List, [], _∷_}
-use native.Mathlib.Nat.{add-zero}
+use mathlib.Core.List.{List, []}
 use native.Mathlib.Omega.{arith}
 use lib.ListN.{length, take, drop, getD}
-use lib.Seq.{length-take-le}
-use Rattle.lists.proofs.Count.{sum-nil}
 use Rattle.refusal.specs.Number.{numberOf}
 use Rattle.refusal.specs.declared.Cause.{Cause}
 use Rattle.refusal.proofs.Order.{numbered-suc}
 use Rattle.circuit.specs.Circuit.{depth, exponentAt}
 use Rattle.circuit.specs.Sized.{LegalCircuit}
 use Rattle.circuit.proofs.Loading.{legal-lists}
-use Rattle.circuit.proofs.Sized.{deep}
 use Rattle.walk.specs.Game.{finalCause, walk}
 use Rattle.walk.proofs.Loop.{Left, left-all, left-coin, left-words, left-next, left-refused, left-none}
-use Rattle.protocol.specs.Rounds.{Place, place, rounds, layerStart}
+use Rattle.protocol.specs.Rounds.{Place, place, rounds}
 use Rattle.protocol.specs.Judge.{messageAt, messageLength, judge, inputAgrees, descent}
 use Rattle.protocol.proofs.Rounds.{as-many}
 use Rattle.protocol.proofs.Sums.{message-words}
-use Rattle.protocol.proofs.Points.{start-next}
-use Rattle.protocol.proofs.Places.{before-layer, before-round, layer-opens, round-opens, layer-closes, none-left}
+use Rattle.protocol.proofs.Places.{before-round}
 use Rattle.standing.specs.Standing.{AtRound}
+use Rattle.standing.proofs.Loops as loops
 use Rattle.verifier.specs.Answers.{Counted}
 
 module _ (c input : List ℕ) (y : ℕ) (ms cs : List ℕ) where
-  abbrev LeftAt : List Place → ℕ → ℕ → ℕ → Type 0
-  LeftAt = Left (descent c input) (rounds c) y ms cs
+  -- what is left, after `at` message words and with this claim
+  abbrev LeftAt : ℕ → ℕ → List Place → ℕ → Type 0
+  LeftAt at claim rest n = Left (descent c input) (rounds c) y ms cs rest n at claim
 
-  -- before a layer, or behind the last
-  pub record BeforeLayer (layer n at claim : ℕ) : Type 0 where
-    pub first : 1 ≤ layer
-    pub last : layer ≤ 1 + depth c
-    pub counted : n ≡ layerStart c layer
-    pub left : LeftAt (before-layer c layer) n at claim
+  abbrev pub BeforeLayer : ℕ → ℕ → ℕ → ℕ → Type 0
+  BeforeLayer layer n at claim = loops.BeforeLayer c (LeftAt at claim) layer n
 
-  -- before a round of a layer, or behind its line
-  pub record BeforeRound (layer round n at claim : ℕ) : Type 0 where
-    pub first : 1 ≤ layer
-    pub last : layer ≤ depth c
-    pub reached : round ≤ 2 * exponentAt c layer + 1
-    pub counted : n ≡ layerStart c layer + round
-    pub left : LeftAt (before-round c layer round) n at claim
+  abbrev pub BeforeRound : ℕ → ℕ → ℕ → ℕ → ℕ → Type 0
+  BeforeRound layer round n at claim = loops.BeforeRound c (LeftAt at claim) layer round n
 
   module _ (h : Counted c input cs ms) where
     legal : LegalCircuit c
@@ -51,66 +39,29 @@ module _ (c input : List ℕ) (y : ℕ) (ms cs : List ℕ) where
 
     pub walk-starts : BeforeLayer 1 0 0 y
     unfolding descent
-    walk-starts = record {
-      first = omega arith;
-      last = omega arith;
-      counted = sym sum-nil;
-      left = left-all (descent c input) (rounds c) y ms cs (h .coins .counted ∙ sym (as-many c)) (h .words ∙ sym (message-words c));
-    }
+    walk-starts =
+        loops.loops-start c legal (LeftAt 0 y) (left-all (descent c input) (rounds c) y ms cs (h .coins .counted ∙ sym (as-many c)) (h .words ∙ sym (message-words c)))
 
     pub layer-starts : (layer n at claim : ℕ) → BeforeLayer layer n at claim → layer ≤ depth c → BeforeRound layer 0 n at claim
-    layer-starts zero n at claim b inside = absurd (let low : 1 ≤ 0 = b .first in omega arith)
-    layer-starts (suc l) n at claim b inside = record {
-      first = b .first;
-      last = inside;
-      reached = omega arith;
-      counted = b .counted ∙ sym (add-zero (layerStart c (suc l)));
-      left = subst (λ (ps : List Place). LeftAt ps n at claim) (layer-opens c l (omega (arith, deep c legal))) (b .left);
-    }
+    layer-starts layer n at claim = loops.layer-starts c legal (LeftAt at claim) layer n
 
     pub layer-ends : (layer round n at claim : ℕ) → BeforeRound layer round n at claim → 2 * exponentAt c layer + 1 ≤ round → BeforeLayer (layer + 1) n at claim
-    layer-ends zero round n at claim b done = absurd (let low : 1 ≤ 0 = b .first in omega arith)
-    layer-ends (suc l) round n at claim b done =
-        let reached = b .reached in
-        let inside = b .last in
-        let all : 2 * exponentAt c (suc l) + 1 ≡ round = omega arith in
-        let up : suc (suc l) ≡ suc l + 1 = omega arith in
-        let next : layerStart c (suc (suc l)) ≡ layerStart c (suc l) + 2 * exponentAt c (suc l) + 1 = start-next c l (omega (arith, deep c legal)) in
-        let counted : n ≡ layerStart c (suc (suc l)) = omega (arith, b .counted, next, all) in
-        record {
-          first = omega arith;
-          last = omega arith;
-          counted = counted ∙ ap (layerStart c) up;
-          left = subst (λ (i : ℕ). LeftAt (before-layer c i) n at claim) up (subst (λ (ps : List Place). LeftAt ps n at claim) (layer-closes c (suc l) round all) (b .left));
-        }
+    layer-ends layer round n at claim = loops.layer-ends c legal (LeftAt at claim) layer round n
 
     pub walk-ends : (layer n at claim : ℕ) → BeforeLayer layer n at claim → depth c < layer → finalCause (inputAgrees c input cs claim) ≡ walk (descent c input) (rounds c) [] y ms cs
     unfolding descent
-    walk-ends zero n at claim b out = absurd (omega arith)
-    walk-ends (suc l) n at claim b out =
-        let low = b .last in
-        left-none (descent c input) (rounds c) y ms cs n at claim
-        (subst (λ (ps : List Place). LeftAt ps n at claim) (none-left c l (omega (arith, deep c legal))) (b .left))
+    walk-ends layer n at claim b out = left-none (descent c input) (rounds c) y ms cs n at claim (loops.loops-end c legal (LeftAt at claim) layer n b out)
 
     module _ (layer round n at claim : ℕ) (b : BeforeRound layer round n at claim) (more : round < 2 * exponentAt c layer + 1) where
-      opened : LeftAt (place layer round ∷ before-round c layer (round + 1)) n at claim
-      opened = subst (λ (ps : List Place). LeftAt ps n at claim) (round-opens c layer round more) (b .left)
-
       pub coin-there : n < length cs
-      coin-there = left-coin (descent c input) (rounds c) y ms cs _ _ n at claim opened
+      coin-there = left-coin (descent c input) (rounds c) y ms cs _ _ n at claim (loops.round-opened c legal (LeftAt at claim) layer round n b more)
 
       pub words-there : at + messageLength c (place layer round) ≤ length ms
       unfolding descent
-      words-there = left-words (descent c input) (rounds c) y ms cs _ _ n at claim opened
+      words-there = left-words (descent c input) (rounds c) y ms cs _ _ n at claim (loops.round-opened c legal (LeftAt at claim) layer round n b more)
 
       pub round-place : AtRound c layer round (take n cs)
-      round-place = record {
-        legal = legal;
-        first = b .first;
-        last = b .last;
-        reached = omega arith;
-        counted = length-take-le n cs (let there = coin-there in omega arith) ∙ b .counted;
-      }
+      round-place = loops.round-place c legal (LeftAt at claim) layer round n b more cs (let there = coin-there in omega arith)
 
       module _ (w : ℕ) (ew : w ≡ messageLength c (place layer round)) where
         abbrev message : List ℕ
@@ -123,22 +74,19 @@ module _ (c input : List ℕ) (y : ℕ) (ms cs : List ℕ) where
             → BeforeRound layer (round + 1) (n + 1) (at + w) next
         unfolding descent
         round-passes next e en =
-            let on = left-next (descent c input) (rounds c) y ms cs _ _ n at claim opened (ap (judge c (place layer round) (take n cs) claim) (sym same-message) ∙ e) in
+            let on =
+            left-next (descent c input) (rounds c) y ms cs _ _ n at claim (loops.round-opened c legal (LeftAt at claim) layer round n b more)
+            (ap (judge c (place layer round) (take n cs) claim) (sym same-message) ∙ e) in
             let claims : messageAt c (take (messageLength c (place layer round)) (drop at ms)) (getD cs n 0) ≡ next =
             ap (λ (m : List ℕ). messageAt c m (getD cs n 0)) (sym same-message) ∙ sym en in
-            record {
-              first = b .first;
-              last = b .last;
-              reached = omega arith;
-              counted = omega (arith, b .counted);
-              left = subst (λ (i : ℕ). LeftAt (before-round c layer (round + 1)) (n + 1) (at + i) next) (sym ew)
-                  (subst (λ (i : ℕ). LeftAt (before-round c layer (round + 1)) (n + 1) (at + messageLength c (place layer round)) i) claims on);
-            }
+            loops.round-next c legal (LeftAt at claim) layer round n b more (LeftAt (at + w) next)
+            (subst (λ (i : ℕ). LeftAt (at + i) next (before-round c layer (round + 1)) (n + 1)) (sym ew)
+            (subst (λ (i : ℕ). LeftAt (at + messageLength c (place layer round)) i (before-round c layer (round + 1)) (n + 1)) claims on))
 
         pub round-refuses : (cause : Cause) → numberOf cause ≡ judge c (place layer round) (take n cs) claim message
             → numberOf cause ≡ walk (descent c input) (rounds c) [] y ms cs
         unfolding descent
         round-refuses cause e =
             let s = numbered-suc cause in
-            s .1 ∙ left-refused (descent c input) (rounds c) y ms cs _ _ n at claim opened (s .0)
+            s .1 ∙ left-refused (descent c input) (rounds c) y ms cs _ _ n at claim (loops.round-opened c legal (LeftAt at claim) layer round n b more) (s .0)
             (ap (judge c (place layer round) (take n cs) claim) (sym same-message) ∙ sym e ∙ s .1)
