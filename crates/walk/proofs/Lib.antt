@@ -1,3 +1,4 @@
 pub mod Play
 pub mod Session
 pub mod Loop
+pub mod Saying
