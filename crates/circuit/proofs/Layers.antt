@@ -14,12 +14,12 @@ use Rattle.primes.proofs.Prime.{listed-prime}
 use Rattle.refusal.proofs.Order.{first-none}
 use Rattle.algebra.specs.Numbers.{Numbers, words}
 use Rattle.circuit.specs.Gate.{Gate, operate, gateValue}
-use Rattle.circuit.specs.Circuit.{primeOf, depth, exponents, outputExponent, gatesStart, gatesOf, layersOf, gateLayers, gatesAt, inputExponent}
+use Rattle.circuit.specs.Circuit.{primeOf, depth, exponents, exponentAt, outputExponent, gatesStart, gatesOf, layersOf, gateLayers, gatesAt, inputExponent}
 use Rattle.circuit.specs.Legal.{allBelow, gateCause, gatesCause, layersCause, listsCause}
 use Rattle.circuit.specs.Sized.{LegalCircuit}
 use Rattle.circuit.specs.Values.{layersFrom, layers, valuesAt, value}
 use Rattle.circuit.specs.Theorems.{LegalPrime, ValuesAreResidues, LayerSizes, LastLayer, LayerByLayer, WiresBelow, OutputLayer}
-use Rattle.circuit.proofs.Sized.{length-exponents}
+use Rattle.circuit.proofs.Sized.{deep}
 use Rattle.circuit.proofs.Loading.{split-true, legal-circuit, legal-lists}
 use Rattle.circuit.proofs.Legal.{gate-wires, length-gates}
 
@@ -83,8 +83,19 @@ pub layer-sizes : LayerSizes
 unfolding valuesAt layers gateLayers inputExponent
 layer-sizes c input e i h =
     let legal = legal-lists c input e in
-    let size = length-exponents c (depth c) (legal .circuit .sized .headed) in
+    let size = deep c (legal .circuit) in
     sizes-from (words (primeOf c)) outputExponent (exponents c) (drop (gatesStart c) c) input i (omega arith) (legal .sized)
+
+length-from : (N : Numbers ℕ) (ls : List (List Gate)) (input : List ℕ) → length (layersFrom N ls input) ≡ suc (length ls)
+unfolding layersFrom
+length-from N [] input = refl
+length-from N (gs ∷ ls) input = ap suc (length-from N ls input)
+
+pub length-all-layers : (c input : List ℕ) → LegalCircuit c → length (layers c input) ≡ suc (depth c)
+unfolding layers gateLayers
+length-all-layers c input legal =
+    length-from (words (primeOf c)) (layersOf outputExponent (exponents c) (drop (gatesStart c) c)) input
+    ∙ ap suc (length-layers outputExponent (exponents c) (drop (gatesStart c) c) ∙ deep c legal)
 
 -- LAYER BY LAYER
 last-from : (N : Numbers ℕ) (ls : List (List Gate)) (input : List ℕ) → getD (layersFrom N ls input) (length ls) [] ≡ input
@@ -97,7 +108,7 @@ unfolding valuesAt layers gateLayers
 last-layer c input e =
     let legal = legal-lists c input e in
     let size : depth c ≡ length (layersOf outputExponent (exponents c) (drop (gatesStart c) c)) =
-    sym (length-layers outputExponent (exponents c) (drop (gatesStart c) c) ∙ length-exponents c (depth c) (legal .circuit .sized .headed)) in
+    sym (length-layers outputExponent (exponents c) (drop (gatesStart c) c) ∙ deep c (legal .circuit)) in
     ap (λ (i : ℕ). getD (layersFrom (words (primeOf c)) (layersOf outputExponent (exponents c) (drop (gatesStart c) c)) input) i []) size
     ∙ last-from (words (primeOf c)) (layersOf outputExponent (exponents c) (drop (gatesStart c) c)) input
 
@@ -112,7 +123,7 @@ pub layer-by-layer : LayerByLayer
 unfolding valuesAt layers gateLayers gatesAt
 layer-by-layer c input e i h =
     let legal = legal-lists c input e in
-    let size = length-layers outputExponent (exponents c) (drop (gatesStart c) c) ∙ length-exponents c (depth c) (legal .circuit .sized .headed) in
+    let size = length-layers outputExponent (exponents c) (drop (gatesStart c) c) ∙ deep c (legal .circuit) in
     step-from (words (primeOf c)) (layersOf outputExponent (exponents c) (drop (gatesStart c) c)) input i (omega (arith, size))
 
 -- WIRES
@@ -133,11 +144,13 @@ layers-wired (k ∷ ks) (gs ∷ ls) zero e h = gates-wired (2 ^ k) gs (first-non
 layers-wired (k ∷ ks) (gs ∷ ls) (suc i) e h =
     layers-wired ks ls i (first-none (gatesCause (2 ^ k) gs) (layersCause ks ls) e .1) (le-of-suc-le-suc h)
 
-pub wires-below-next : WiresBelow
+pub legal-wires : (c : List ℕ) → LegalCircuit c → (i : ℕ) → i < depth c
+    → All (λ g. (g .left < 2 ^ exponentAt c (suc i)) × (g .right < 2 ^ exponentAt c (suc i))) (gatesAt c i)
 unfolding gatesAt
-wires-below-next c e i h =
-    let legal = legal-circuit c e in
-    layers-wired (exponents c) (gateLayers c) i (legal .wired) (le-trans h (le-of-eq (sym (length-exponents c (depth c) (legal .sized .headed)))))
+legal-wires c legal i h = layers-wired (exponents c) (gateLayers c) i (legal .wired) (le-trans h (le-of-eq (sym (deep c legal))))
+
+pub wires-below-next : WiresBelow
+wires-below-next c e i h = legal-wires c (legal-circuit c e) i h
 
 -- a list of one word
 single : (l : List ℕ) → length l ≡ 1 → l ≡ getD l 0 0 ∷ []

@@ -2,10 +2,10 @@
 -- Assumes nothing.
 use Prim.Native.Nat.{ℕ, suc, _+_, _≤_, _<_}
 use mathlib.Core.Path.{_≡_, sym, ap, _∙_}
-use mathlib.Core.Bool.{Bool, true, cond}
+use mathlib.Core.Bool.{true}
 use mathlib.Core.List.{List, flatten}
 use native.Mathlib.Omega.{arith}
-use lib.Dec.{eqb, leb, eqb·suc-zero}
+use lib.Dec.{leb}
 use lib.ListN.{length, take, getD}
 use borrow.Author.Tests.{lt-leb, le-leb}
 use Rattle.lists.specs.Buffer.{over}
@@ -13,7 +13,7 @@ use Rattle.refusal.specs.Number.{numberOf}
 use Rattle.refusal.specs.Order.{need, first}
 use Rattle.refusal.specs.declared.Cause.{Cause}
 use Rattle.refusal.specs.declared.Cause.the-variants.{BufferShort}
-use Rattle.refusal.proofs.Order.{refused-first, numbered-suc}
+use Rattle.refusal.proofs.Order.{refused-first, numbered-suc, left-by}
 use Rattle.circuit.specs.Limits.{maxValues}
 use Rattle.circuit.specs.Circuit.{valueCount, gateCount, outputExponent, exponents}
 use Rattle.circuit.specs.Legal.{listsCause}
@@ -31,10 +31,9 @@ module _ (c input before : List ℕ) where
   by-cause cause e =
       let n : ℕ = numbered-suc cause .0 in
       let s : numberOf cause ≡ suc n = numbered-suc cause .1 in
-      let written : List ℕ = over (flatten (layers c input)) before in
       record {
         answer = ap refused s ∙ sym (ap (λ (k : ℕ). evaluated k (value c input)) (e ∙ s));
-        buffer = sym (ap (λ (k : ℕ). cond (eqb k 0) written before) (e ∙ s) ∙ ap (λ (b : Bool). cond b written before) (eqb·suc-zero n));
+        buffer = sym (left-by cause (evaluateCause c input before) (over (flatten (layers c input)) before) before e);
       }
 
   pub left-lists : (cause : Cause) → numberOf cause ≡ listsCause c input → Evaluates c input before (Refused cause) before

@@ -3,6 +3,9 @@
 use mathlib.Core.Path.{_≡_, sym}
 use mathlib.Core.Logic.{_≢_}
 use mathlib.Core.List.{List, [], _∷_, _++_, map, flatMap}
+use Prim.Native.Nat.{ℕ, zero, suc, _<_}
+use native.Mathlib.Nat.{not-suc-le-zero, le-of-suc-le-suc}
+use lib.ListN.{length, getD}
 use Rattle.lists.specs.Each.{All, Distinct}
 
 module _ {A : Type 0} where
@@ -13,6 +16,11 @@ module _ {A : Type 0} where
   pub all-weaken : {P Q : A → Type 0} (l : List A) → ((x : A) → P x → Q x) → All P l → All Q l
   all-weaken [] f h = tt
   all-weaken (x ∷ l) f h = (f x (h .0), all-weaken l f (h .1))
+
+  pub all-at : (P : A → Type 0) (l : List A) (i : ℕ) (d : A) → i < length l → All P l → P (getD l i d)
+  all-at P [] i d h a = absurd (not-suc-le-zero h)
+  all-at P (x ∷ l) zero d h a = a .0
+  all-at P (x ∷ l) (suc i) d h a = all-at P l i d (le-of-suc-le-suc h) (a .1)
 
   pub all-both : (P Q : A → Type 0) (l : List A) → All P l → All Q l → All (λ x. P x × Q x) l
   all-both P Q [] g h = tt

@@ -2,9 +2,9 @@
 -- Assumes nothing.
 use mathlib.Core.Path.{_≡_, sym, ap, _∙_}
 use mathlib.Core.List.{List, [], _∷_, _++_, map, flatten}
-use Prim.Native.Nat.{ℕ, zero, suc, _<_, min}
+use Prim.Native.Nat.{ℕ, zero, suc, _+_, _<_, min}
 use native.Mathlib.Nat.{zero-min, min-zero, suc-min-suc, not-suc-le-zero, le-of-suc-le-suc}
-use lib.ListN.{length, take, drop, getD, length-take}
+use lib.ListN.{length, take, drop, getD, length-take, length-append}
 use lib.Seq.{take-append-seam, drop-append-seam, drop-drop}
 use Rattle.lists.specs.Count.{sum}
 use Rattle.lists.proofs.Count.{sum-nil, sum-cons}
@@ -35,3 +35,8 @@ take-least zero b l = ap (λ (n : ℕ). take n l) (zero-min b)
 take-least (suc a) zero l = ap (λ (n : ℕ). take n l) (min-zero (suc a))
 take-least {A} (suc a) (suc b) [] = ap (λ (n : ℕ). take {A = A} n []) (suc-min-suc a b)
 take-least {A} (suc a) (suc b) (x ∷ l) = ap (λ (n : ℕ). take n (x ∷ l)) (suc-min-suc a b) ∙ ap (λ (t : List A). x ∷ t) (take-least a b l)
+
+pub length-flatten : {A : Type 0} (ls : List (List A)) → length (flatten ls) ≡ sum (map length ls)
+unfolding flatten
+length-flatten [] = sym sum-nil
+length-flatten (l ∷ ls) = length-append l (flatten ls) ∙ ap (λ (n : ℕ). length l + n) (length-flatten ls) ∙ sym (sum-cons (length l) (map length ls))

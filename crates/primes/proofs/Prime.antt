@@ -10,7 +10,7 @@ use native.Mathlib.Omega.{arith}
 use native.Mathlib.Nat.{mul-mod-right, zero-mul, mul-zero, mul-one, mul-le-mul, mul-comm}
 use native.Mathlib.Decide.{decLe, ℕ-discrete}
 use lib.Dec.{T, eqb, ltb, leb, eqb-refl, eqb→eq, ltb→lt, leb→le, lt→ltb, T-not}
-use Rattle.primes.specs.Prime.{Prime, listed, isOneOf, ListedArePrime}
+use Rattle.primes.specs.Prime.{Prime, listed, isOneOf, ListedArePrime, isListed}
 
 pub one-of-nil : (p : ℕ) → isOneOf [] p ≡ false
 unfolding isOneOf
@@ -118,3 +118,23 @@ one-of (q ∷ l) t p e = go (split-T (isPrimeWord q) (allPrime l) t) (eqb p q) r
 pub listed-prime : ListedArePrime
 unfolding allPrime isPrimeWord trial
 listed-prime = one-of listed tt
+
+-- none of a list is below m
+allFrom : ℕ → List ℕ → Bool
+allFrom m [] = true
+allFrom m (q ∷ l) = leb m q && allFrom m l
+
+one-from : (m : ℕ) (l : List ℕ) → T (allFrom m l) → (p : ℕ) → isOneOf l p ≡ true → m ≤ p
+unfolding allFrom isOneOf
+one-from m [] t p e = absurd (subst T (sym e) tt)
+one-from m (q ∷ l) t p e = go (split-T (leb m q) (allFrom m l) t) (eqb p q) refl (λ s f. one-from m l s p f) e
+  where
+    go : T (leb m q) × T (allFrom m l) → (b : Bool) → eqb p q ≡ b → (T (allFrom m l) → isOneOf l p ≡ true → m ≤ p)
+        → (b || isOneOf l p) ≡ true → m ≤ p
+    go s true f rec g = subst (λ (n : ℕ). m ≤ n) (sym (eqb→eq p q (subst T (sym f) tt))) (leb→le m q (s .0))
+    go s false f rec g = rec (s .1) g
+
+-- the least of the listed is 13
+pub listed-least : (p : ℕ) → isListed p ≡ true → 13 ≤ p
+unfolding allFrom
+listed-least = one-from 13 listed tt

@@ -2,8 +2,9 @@
 -- Assumes nothing.
 use Prim.Native.Nat.{ℕ, zero, suc}
 use mathlib.Core.Path.{_≡_, refl, sym, ap, _∙_}
-use mathlib.Core.Bool.{Bool, true, false}
+use mathlib.Core.Bool.{Bool, true, false, cond}
 use native.Mathlib.Nat.{suc-ne-zero}
+use lib.Dec.{eqb, eqb·suc-zero}
 use Rattle.refusal.specs.Number.{numberOf}
 use Rattle.refusal.specs.Order.{need, first}
 use Rattle.refusal.specs.declared.Cause.{Cause}
@@ -66,3 +67,9 @@ first-more (suc cause) more rest = refl
 pub need-more : (b : Bool) (n more rest : ℕ) → first (need b (suc n) more) rest ≡ need b (suc n) (first more rest)
 need-more true n more rest = refl
 need-more false n more rest = refl
+
+-- where a cause is found, nothing is written
+pub left-by : {A : Type 0} (cause : Cause) (n : ℕ) (written before : A) → n ≡ numberOf cause → cond (eqb n 0) written before ≡ before
+left-by cause n written before e =
+    let s = numbered-suc cause in
+    ap (λ (k : ℕ). cond (eqb k 0) written before) (e ∙ s .1) ∙ ap (λ (b : Bool). cond b written before) (eqb·suc-zero (s .0))
