@@ -1,0 +1,5 @@
+pub mod Rows
+pub mod Values
+pub mod Following
+pub mod Transcripts
+pub mod Proving

@@ -1,0 +1,141 @@
+-- `prove_one` meets its contract: refusal by refusal, then the message of the round that follows the prefix.
+-- Assumes nothing.
+use Prim.Native.Nat.{_<_}
+use mathlib.Core.Path.{_≡_, sym, ap, _∙_}
+use mathlib.Core.Bool.{true}
+use native.Mathlib.Omega.{arith}
+use lib.ListN.{length}
+use Rattle.refusal.specs.Number.{causeOf}
+use Rattle.circuit.specs.Circuit.{primeOf, coinCount}
+use Rattle.circuit.specs.Legal.{allBelow, listsCause}
+use Rattle.circuit.specs.Sized.{LegalCircuit}
+use Rattle.circuit.proofs.Loading.{legal-lists, not-true, not-false}
+use Rattle.prover.proofs.Values.{writable}
+use Rattle.prover.proofs.Following.{one-lists, one-count, one-word, at-round, one-short, one-written}
+use borrow.Author.Needs.{needs}
+use Rattle.prover.proofs.prove_one.Statement.{statement}
+use Rattle.prover.proofs.prove_one.Tie as tie
+
+abbrev start : tie.After-enum-told → tie.Start
+start t = t .before .before .before .before .before .before .before
+
+-- after 1 to 9
+none : (t : tie.After-enum-told) → listsCause (start t .args .circuit .now) (start t .args .input .now) ≡ 0
+none t = sym (t .before .before .check-lists .ensures) ∙ ap causeOf (t .enum-told .given .1)
+
+legal : (t : tie.After-enum-told) → LegalCircuit (start t .args .circuit .now)
+legal t = legal-lists (start t .args .circuit .now) (start t .args .input .now) (none t) .circuit
+
+-- after 11
+few : (e : tie.Else1) → length (start (e .before .before) .args .prefix .now) < coinCount (start (e .before .before) .args .circuit .now)
+few e =
+    let count = e .before .coin-count .ensures (legal (e .before .before)) in
+    omega (arith, count, e .if1 .left)
+
+-- after 12
+abbrev told : tie.Else2 → tie.After-enum-told
+told e = e .before .before .before .before .before
+
+residues : (e : tie.Else2) → allBelow (primeOf (start (told e) .args .circuit .now)) (start (told e) .args .prefix .now) ≡ true
+residues e = sym (e .before .all-below .ensures) ∙ not-false (e .if2 .left)
+
+check-lists-requires : tie.Need-check-lists-requires
+check-lists-requires c κs = search needs
+
+enum-known-lists : tie.Need-enum-known-lists
+enum-known-lists c = search needs
+
+returns : tie.Need-returns
+returns c =
+    let said = c .before .lists .given in
+    one-lists _ _ _ _ (said .0 .0) (sym (ap causeOf (said .1)) ∙ c .before .before .before .check-lists .ensures)
+
+enum-told : tie.Need-enum-told
+enum-told c = search needs
+
+coin-count-requires : tie.Need-coin-count-requires
+coin-count-requires c κs = search needs
+
+returns-2 : tie.Need-returns-2
+returns-2 c =
+    let t = c .before .before in
+    let count = c .before .coin-count .ensures (legal t) in
+    one-count _ _ _ _ (none t) (omega (arith, count, c .if1 .taken))
+
+shared-slice-read-all-below : tie.Need-shared-slice-read-all-below
+shared-slice-read-all-below c =
+    let t = c .before .before .before in
+    let long = legal t .sized .headed .long in
+    omega arith
+
+all-below-requires : tie.Need-all-below-requires
+all-below-requires c κs = search needs
+
+returns-3 : tie.Need-returns-3
+returns-3 c =
+    let e = c .before .before .before in
+    one-word _ _ _ _ (none (e .before .before)) (few e) (sym (c .before .all-below .ensures) ∙ not-true (c .if2 .taken))
+
+place-after-requires : tie.Need-place-after-requires
+place-after-requires c κs = (legal (told c), few (c .before .before .before))
+
+message-length-requires : tie.Need-message-length-requires
+message-length-requires c κs = search needs
+
+returns-4 : tie.Need-returns-4
+returns-4 c =
+    let e = c .before .before .before in
+    let found = c .before .before .place-after in
+    let size = c .before .message-length .ensures in
+    one-short _ _ _ _ (none (told e)) (few (e .before .before .before)) (residues e) _ (found .ensures)
+    (omega (arith, size, c .if3 .taken))
+
+all-values-requires : tie.Need-all-values-requires
+all-values-requires c κs = none (told (c .before .before .before))
+
+slice-aggregate-write-message : tie.Need-slice-aggregate-write-message
+slice-aggregate-write-message c = search needs
+
+write-message-requires : tie.Need-write-message-requires
+write-message-requires c κs =
+    let e = c .before .before .before .before .before .before in
+    let found = c .before .before .before .before .before .place-after in
+    let values = c .before .before .all-values in
+    let size = c .before .before .before .before .message-length .ensures in
+    writable _ _ (none (told e)) _ (values .ensures) _ _ _ _
+    (at-round _ (legal (told e)) _ _ (found .ensures)) (omega (arith, size, c .before .before .before .if3 .left))
+
+same-length : tie.Need-same-length
+same-length c = search needs
+
+returns-5 : tie.Need-returns-5
+returns-5 c =
+    let at = c .before .before .before .before .before .before in
+    let e = at .before .before .before in
+    let found = at .before .before .place-after in
+    let size = at .before .message-length in
+    let values = c .before .before .before .before .before .all-values in
+    one-written _ _ _ _ (none (told e)) (few (e .before .before .before)) (residues e) _ (found .ensures)
+    _ _ _ (size .ensures) (at .if3 .left) (values .ensures) (c .before .before .write-message .ensures)
+
+pub prove-one-spec : {M : Type 1} → statement M
+prove-one-spec =
+    tie.close
+    (tie.spec
+    check-lists-requires
+    enum-known-lists
+    returns
+    enum-told
+    coin-count-requires
+    returns-2
+    shared-slice-read-all-below
+    all-below-requires
+    returns-3
+    place-after-requires
+    message-length-requires
+    returns-4
+    all-values-requires
+    slice-aggregate-write-message
+    write-message-requires
+    same-length
+    returns-5)

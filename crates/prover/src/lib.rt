@@ -1,0 +1,223 @@
+// The prover: the honest messages, all of them or the one that follows a coin prefix.
+use evaluation::Evaluated;
+use evaluation::MAX_VALUES;
+use field::Field;
+use refusal::Cause;
+use refusal::Checked;
+ghost use mathlib.Core.Path.{_≡_};
+ghost use mathlib.Core.Bool.{true, false};
+ghost use Prim.Native.Nat.{_<_};
+ghost use Rattle.lists.specs.Buffer.{over};
+ghost use Rattle.circuit.specs.Circuit.{coinCount};
+ghost use Rattle.circuit.specs.Legal.{listsCause};
+ghost use Rattle.circuit.specs.Sized.{LegalCircuit};
+ghost use Rattle.evaluation.specs.Layer.{AllValues};
+ghost use Rattle.protocol.specs.Rounds.{place, isLine};
+ghost use Rattle.protocol.specs.Prove.{messageFrom};
+ghost use Rattle.prover.specs.Writing.{valuesIn, Writable, Provable, Writes, Follows};
+ghost use Rattle.prover.specs.Answers.{Proves, ProvesOne};
+
+// An output, and the number of message words that were written for it.
+pub struct Proof {
+    pub output: u32,
+    pub words: usize,
+}
+
+// What a whole proof answers.
+pub enum Proved {
+    Written(Proof),
+    Refused(Cause),
+}
+
+// What a proof of one message answers: its word count.
+pub enum Message {
+    Written(usize),
+    Refused(Cause),
+}
+
+// Writes the message of a sum round to the buffer's front, from the values of its layer.
+fn write_sum(
+    circuit: &[u32],
+    layer: usize,
+    round: usize,
+    past: &[u32],
+    values: &[u32],
+    buffer: &mut [u32],
+)
+    requires { ⌜ Writable (now circuit) layer round (now past) (now values) (now buffer) × (isLine (now circuit) (place layer round) ≡ false) ⌝ }
+    ensures { λ _. ⌜ now (buffer .exit) ≡ over (messageFrom (now (circuit .entry)) (now (values .entry)) (place layer round) (now (past .entry))) (now (buffer .entry)) ⌝ }
+{
+    let s = standing::at_round(circuit, layer, round, past);
+    let from = s.from;
+    let to = s.to;
+    let point = s.point;
+    let u = s.u;
+    let v = s.v;
+    let points = [u, v];
+    let f = Field::of(circuit[0]);
+    let words = sums::sum_message(
+        f,
+        &circuit[from..to],
+        point,
+        s.above,
+        values,
+        points,
+        s.own,
+        round,
+    );
+    lists::put(buffer, &words[..3]);
+}
+
+// Writes a layer's line message to the buffer's front.
+fn write_line(
+    circuit: &[u32],
+    layer: usize,
+    round: usize,
+    past: &[u32],
+    values: &[u32],
+    buffer: &mut [u32],
+)
+    requires { ⌜ Writable (now circuit) layer round (now past) (now values) (now buffer) × (isLine (now circuit) (place layer round) ≡ true) ⌝ }
+    ensures { λ _. ⌜ now (buffer .exit) ≡ over (messageFrom (now (circuit .entry)) (now (values .entry)) (place layer round) (now (past .entry))) (now (buffer .entry)) ⌝ }
+{
+    let s = standing::at_round(circuit, layer, round, past);
+    let own = s.own;
+    let u = s.u;
+    let v = s.v;
+    let points = [u, v];
+    let f = Field::of(circuit[0]);
+    let words = line::line_message(f, values, points, own);
+    let count = standing::message_length(circuit, layer, round);
+    lists::put(buffer, &words[..count]);
+}
+
+// Writes the message of a round to the buffer's front, from the values of all layers and the coins before it. Both forms of the proof write by it.
+fn write_message(
+    circuit: &[u32],
+    layer: usize,
+    round: usize,
+    past: &[u32],
+    values: &[u32],
+    buffer: &mut [u32],
+)
+    requires { ⌜ Writable (now circuit) layer round (now past) (valuesIn (now circuit) layer (now values)) (now buffer) ⌝ }
+    ensures { λ _. ⌜ now (buffer .exit) ≡ over (messageFrom (now (circuit .entry)) (valuesIn (now (circuit .entry)) layer (now (values .entry))) (place layer round) (now (past .entry))) (now (buffer .entry)) ⌝ }
+{
+    let from = standing::gates_before(circuit, layer);
+    let to = from + legality::width(standing::exponent(circuit, layer));
+    if standing::is_line(circuit, layer, round) {
+        write_line(circuit, layer, round, past, &values[from..to], buffer);
+        return;
+    }
+    write_sum(circuit, layer, round, past, &values[from..to], buffer);
+}
+
+// The values of all layers, the output's first.
+fn all_values(circuit: &[u32], input: &[u32]) -> [u32; MAX_VALUES]
+    requires { ⌜ listsCause (now circuit) (now input) ≡ 0 ⌝ }
+    ensures { λ r. ⌜ AllValues (now (circuit .entry)) (now (input .entry)) r ⌝ }
+{
+    let mut values = [0u32; MAX_VALUES];
+    evaluation::evaluate(circuit, input, &mut values);
+    values
+}
+
+// Writes all messages, each directly after the one before it.
+fn write_all(circuit: &[u32], input: &[u32], coins: &[u32], messages: &mut [u32]) -> Proof
+    requires { ⌜ Provable (now circuit) (now input) (now coins) (now messages) ⌝ }
+    ensures { λ r. ⌜ Writes (now (circuit .entry)) (now (input .entry)) (now (coins .entry)) (now (messages .entry)) r (now (messages .exit)) ⌝ }
+{
+    let values = all_values(circuit, input);
+    let mut n = 0;
+    let mut at = 0;
+    for layer in 1..circuit[1] as usize + 1 {
+        for round in 0..2 * standing::exponent(circuit, layer) as usize + 1 {
+            write_message(
+                circuit,
+                layer,
+                round,
+                &coins[..n],
+                &values[..MAX_VALUES],
+                &mut messages[at..],
+            );
+            at += standing::message_length(circuit, layer, round);
+            n += 1;
+        }
+    }
+    Proof {
+        output: values[0],
+        words: at,
+    }
+}
+
+// Prove, whole: 1 to 9, 11, 12, 10; then the output and the words written.
+pub fn prove(circuit: &[u32], input: &[u32], coins: &[u32], messages: &mut [u32]) -> Proved
+    ensures { λ r. ⌜ Proves (now (circuit .entry)) (now (input .entry)) (now (coins .entry)) (now (messages .entry)) r (now (messages .exit)) ⌝ }
+{
+    let lists = legality::check_lists(circuit, input);
+    if let Checked::Refused(cause) = lists {
+        return Proved::Refused(cause);
+    }
+    let taken = standing::check_coins(circuit, coins);
+    if let Checked::Refused(cause) = taken {
+        return Proved::Refused(cause);
+    }
+    if messages.len() < standing::message_words(circuit) {
+        return Proved::Refused(Cause::BufferShort);
+    }
+    Proved::Written(write_all(circuit, input, coins, messages))
+}
+
+// A round of a layer.
+struct Place {
+    layer: usize,
+    round: usize,
+}
+
+// The round whose message follows these many coins.
+fn place_after(circuit: &[u32], coins: usize) -> Place
+    requires { ⌜ LegalCircuit (now circuit) × (coins < coinCount (now circuit)) ⌝ }
+    ensures { λ r. ⌜ Follows (now (circuit .entry)) coins r ⌝ }
+{
+    let mut layer = 1;
+    let mut round = coins;
+    loop {
+        let line = 2 * standing::exponent(circuit, layer) as usize;
+        if round <= line {
+            break Place { layer, round };
+        }
+        round -= line + 1;
+        layer += 1;
+    }
+}
+
+// Prove, one message: the same refusals with a coin prefix; then the words of the message that follows it.
+pub fn prove_one(circuit: &[u32], input: &[u32], prefix: &[u32], buffer: &mut [u32]) -> Message
+    ensures { λ r. ⌜ ProvesOne (now (circuit .entry)) (now (input .entry)) (now (prefix .entry)) (now (buffer .entry)) r (now (buffer .exit)) ⌝ }
+{
+    let lists = legality::check_lists(circuit, input);
+    if let Checked::Refused(cause) = lists {
+        return Message::Refused(cause);
+    }
+    if standing::coin_count(circuit) <= prefix.len() {
+        return Message::Refused(Cause::CoinCount);
+    }
+    if !legality::all_below(prefix, circuit[0]) {
+        return Message::Refused(Cause::CoinWord);
+    }
+    let place = place_after(circuit, prefix.len());
+    let words = standing::message_length(circuit, place.layer, place.round);
+    if buffer.len() < words {
+        return Message::Refused(Cause::BufferShort);
+    }
+    let values = all_values(circuit, input);
+    write_message(
+        circuit,
+        place.layer,
+        place.round,
+        prefix,
+        &values[..MAX_VALUES],
+        buffer,
+    );
+    Message::Written(words)
+}
