@@ -1,5 +1,6 @@
 #!/usr/bin/env python3
-"""Makes the cases of the programs cases_circuit, cases_xdr and cases_check: what they read (stdin) and what they must print (stdout).
+"""Makes the cases of the programs cases_circuit, cases_xdr, cases_check and cases_prove: what they read (stdin) and what they must print
+(stdout).
 
     tests/make_cases.py VECTORS
 
@@ -7,9 +8,10 @@ VECTORS has a case of an operation on each line, a JSON object {"op", "args", "a
 record as it is before the call, the expected answer, and the buffer or record after it; bytes are hex. It comes from an implementation
 that shares nothing with this repository. Cases of other operations are passed over.
 
-Cases at the edges are added. Their answers come from the functions load, evaluate, read, check, opening and step below, which follow the
-specification word by word; they must first give the answer of every case in VECTORS. No answer comes from a program of this repository.
-One case more is a count: on how many of all coin lists the whole check accepts the messages of C7.
+Cases at the edges are added. Their answers come from the functions load, evaluate, read, check, opening, step, prove and prove_one below,
+which follow the specification word by word; they must first give the answer of every case in VECTORS. No answer comes from a program of
+this repository. Some cases more are counts: on how many of all coin lists the messages of C7 are accepted, those of the prover, and those
+of the best rule for each output.
 
 The form of a case stands at the top of each program, that of a printed buffer in the crate cases.
 """
@@ -24,7 +26,8 @@ PRIMES = (13, 65537, 2147483647, 4294967291)
 SENTINEL = 4242424242
 FIGURES = ("layer", "round", "claim", "open")
 # The limits of the programs: bytes of a case, words of its first list, and of the others.
-LIMITS = {"cases_circuit": (65536, 16384, 16384), "cases_xdr": (262144, 65536, 0), "cases_check": (65536, 16384, 1024)}
+LIMITS = {"cases_circuit": (65536, 16384, 16384), "cases_xdr": (262144, 65536, 0), "cases_check": (65536, 16384, 1024),
+          "cases_prove": (65536, 16384, 1024)}
 
 
 # The specification. A refusal is its number, 0 where there is none.
@@ -146,17 +149,21 @@ def line_claim(circuit, layer, coins, x, y):
     return (wiring[1] * (x + y) + wiring[2] * x * y) % p
 
 
+def compared(circuit, layer, turn, coins, message):
+    """What a message gives that must equal the standing claim, given the coins before it."""
+    ends = value_at(message, 0, circuit[0]), value_at(message, 1, circuit[0])
+    return line_claim(circuit, layer, coins, *ends) if turn == 2 * exponent(circuit, layer) else sum(ends) % circuit[0]
+
+
 def judge(circuit, layer, turn, coins, claim, message):
     """The refusals 14 to 17 of a message, given the coins before it."""
-    p = circuit[0]
     if len(message) != message_length(circuit, layer, turn):
         return 14
-    if any(word >= p for word in message):
+    if any(word >= circuit[0] for word in message):
         return 15
-    ends = value_at(message, 0, p), value_at(message, 1, p)
-    if turn < 2 * exponent(circuit, layer):
-        return 0 if sum(ends) % p == claim else 16
-    return 0 if line_claim(circuit, layer, coins, *ends) == claim else 17
+    if compared(circuit, layer, turn, coins, message) == claim:
+        return 0
+    return 17 if turn == 2 * exponent(circuit, layer) else 16
 
 
 def last_cause(circuit, inputs, coins, claim):
@@ -229,6 +236,95 @@ def step(circuit, inputs, coins, record, message):
     return (["refused", cause] if cause else ["accepted"]), ended
 
 
+def times(f, g, p):
+    """The product of two coefficient lists."""
+    product = [0] * (len(f) + len(g) - 1)
+    for (i, x), (j, y) in itertools.product(enumerate(f), enumerate(g)):
+        product[i + j] = (product[i + j] + x * y) % p
+    return product
+
+
+def plus(f, g, p):
+    return [(x + y) % p for x, y in itertools.zip_longest(f, g, fillvalue=0)]
+
+
+def fixed(table, point, p):
+    """A table of coefficient lists, with its first variables set to the point's coordinates, coefficient lists too."""
+    for z in point:
+        half = len(table) // 2
+        table = [plus(times(plus([1], times([-1], z, p), p), low, p), times(z, high, p), p)
+                 for low, high in zip(table[:half], table[half:])]
+    return table
+
+
+def gate_terms(p, gates, table, k, point, here):
+    """The sum over the gates, with the first coordinates of u and v given, coefficient lists: a gate counts where those after them are
+    its wires' bits."""
+    total, left, right = [0, 0, 0], fixed(table, here[:k], p), fixed(table, here[k:], p)
+    for a, (kind, b, c) in enumerate(gates):
+        term = [weight(a, point, p)]
+        for j, z in enumerate(here):
+            term = times(term, z if (b << k | c) >> (2 * k - 1 - j) & 1 else plus([1], times([-1], z, p), p), p)
+        x, y = left[b % len(left)], right[c % len(right)]
+        total = plus(total, times(term, {0: [0], 1: plus(x, y, p), 2: times(x, y, p)}[kind], p), p)
+    return total
+
+
+def honest_sum(p, gates, table, k, point, own):
+    """A sum round's message: the current coordinate is the variable. For narrow layers it is compared with the definition, a sum over
+    {0, 1} of the coordinates not yet fixed."""
+    here = [[z] for z in own] + [[0, 1]]
+    message = gate_terms(p, gates, table, k, point, here)
+    if k < 4:
+        summed = [0, 0, 0]
+        for rest in itertools.product(([0], [1]), repeat=2 * k - len(here)):
+            summed = plus(summed, gate_terms(p, gates, table, k, point, here + list(rest)), p)
+        assert message == summed
+    return message
+
+
+def honest_message(circuit, values, past):
+    """The honest message after some coins, from the values of all layers."""
+    p, (layer, turn) = circuit[0], places(circuit)[len(past)]
+    k, table = exponent(circuit, layer), [[value] for value in values[layer]]
+    u, v, _ = own_coins(circuit, layer, past)
+    if turn < 2 * k:
+        return honest_sum(p, layers(circuit)[layer - 1], table, k, point_at(circuit, layer, past), u + v)
+    return fixed(table, [[x, (y - x) % p] for x, y in zip(u, v)], p)[0]
+
+
+def honest(circuit, inputs, coins):
+    """The honest messages."""
+    values = values_of(circuit, inputs)
+    return [honest_message(circuit, values, coins[:j]) for j in range(len(places(circuit)))]
+
+
+def prove(circuit, inputs, coins, buf):
+    """The answer and the buffer after it."""
+    cause = lists_cause(circuit, inputs) or coins_cause(circuit, coins)
+    if cause:
+        return ["refused", cause], buf
+    words = sum(honest(circuit, inputs, coins), [])
+    if len(buf) < len(words):
+        return ["refused", 10], buf
+    return ["proved", values_of(circuit, inputs)[0][0], len(words)], words + buf[len(words):]
+
+
+def prove_one(circuit, inputs, prefix, buf):
+    """The answer and the buffer after it."""
+    cause = lists_cause(circuit, inputs)
+    if cause:
+        return ["refused", cause], buf
+    if len(prefix) >= len(places(circuit)):
+        return ["refused", 11], buf
+    if any(coin >= circuit[0] for coin in prefix):
+        return ["refused", 12], buf
+    message = honest_message(circuit, values_of(circuit, inputs), prefix)
+    if len(buf) < len(message):
+        return ["refused", 10], buf
+    return ["message", len(message)], message + buf[len(message):]
+
+
 def read(number, data, buf):
     """The answer and the buffer after it."""
     if not 1 <= number <= 4:
@@ -248,6 +344,33 @@ def read(number, data, buf):
     return ["counts"] + (counts + [0, 0, 0])[:4], words + buf[len(words):]
 
 
+def session_accepts(circuit, inputs, output, coins, messages):
+    given, record = opening(circuit, inputs, output, coins, {})
+    for message in messages if given == ["opened"] else []:
+        given, record = step(circuit, inputs, coins, record, message)
+    return given == ["accepted"]
+
+
+def rule_messages(circuit, rule, coins):
+    """The messages of a rule on some coins. Its words have for each round the messages in the order of the coins before it."""
+    p, at, messages = circuit[0], 0, []
+    for j, place in enumerate(places(circuit)):
+        length, number = message_length(circuit, *place), sum(coin * p ** i for i, coin in enumerate(reversed(coins[:j])))
+        messages.append(rule[at + length * number:at + length * (number + 1)])
+        at += length * p ** j
+    return messages
+
+
+def accepted_on(circuit, inputs, output, messages_on):
+    """On how many of all coin lists the whole check accepts and a session does."""
+    by_check = by_session = 0
+    for drawn in itertools.product(range(circuit[0]), repeat=len(places(circuit))):
+        messages = messages_on(list(drawn))
+        by_check += check(circuit, inputs, output, list(drawn), sum(messages, [])) == ["accepted"]
+        by_session += session_accepts(circuit, inputs, output, list(drawn), messages)
+    return ["accepted on", by_check, "by check,", by_session, "by session"]
+
+
 def answer(op, args):
     """The answer, and the buffer or record after it."""
     circuit, inputs, coins = args.get("circuit"), args.get("input"), args.get("coins")
@@ -260,6 +383,10 @@ def answer(op, args):
         accepted = [check(circuit, inputs, args["output"], list(drawn), args["messages"]) == ["accepted"]
                     for drawn in itertools.product(range(13), repeat=3)]
         return ["accepted on", sum(accepted)], {}
+    if op in ("count whole", "count single"):
+        return accepted_on(circuit, inputs, args["output"], lambda coins: honest(circuit, inputs, coins)), {}
+    if op == "count rule":
+        return accepted_on(circuit, inputs, args["output"], lambda coins: rule_messages(circuit, args["rule"], coins)), {}
     if op == "open":
         given, after = opening(circuit, inputs, args["output"], coins, args["record"])
         return given, {"record": after}
@@ -268,6 +395,10 @@ def answer(op, args):
         return given, {"record": after}
     if op == "evaluate":
         given, after = evaluate(circuit, inputs, args["buf"])
+    elif op == "prove":
+        given, after = prove(circuit, inputs, coins, args["buf"])
+    elif op == "prove_one":
+        given, after = prove_one(circuit, inputs, coins, args["buf"])
     else:
         given, after = read(args["number"], bytes.fromhex(args["bytes"]), args["buf"])
     return given, {"buf": after}
@@ -399,54 +530,7 @@ def read_edges():
     yield 4, arrays(*([draw.below(2 ** 32) for _ in range(11541)] for _ in range(4))), 4 * 11541
 
 
-# Transcripts, from which the edges of check, open and step are made: circuit, input, output, coins, and the list of messages.
-
-def times(f, g, p):
-    """The product of two coefficient lists."""
-    product = [0] * (len(f) + len(g) - 1)
-    for (i, x), (j, y) in itertools.product(enumerate(f), enumerate(g)):
-        product[i + j] = (product[i + j] + x * y) % p
-    return product
-
-
-def plus(f, g, p):
-    return [(x + y) % p for x, y in itertools.zip_longest(f, g, fillvalue=0)]
-
-
-def fixed(table, point, p):
-    """A table of coefficient lists, with its first variables set to the point's coordinates, coefficient lists too."""
-    for z in point:
-        half = len(table) // 2
-        table = [plus(times(plus([1], times([-1], z, p), p), low, p), times(z, high, p), p)
-                 for low, high in zip(table[:half], table[half:])]
-    return table
-
-
-def honest_sum(p, gates, table, k, point, own):
-    """A sum round's message: the current coordinate is the variable, and a gate counts where those after it are its wires' bits."""
-    here, total = [[z] for z in own] + [[0, 1]], [0, 0, 0]
-    left, right = fixed(table, here[:k], p), fixed(table, here[k:], p)
-    for a, (kind, b, c) in enumerate(gates):
-        term = [weight(a, point, p)]
-        for j, z in enumerate(here):
-            term = times(term, z if (b << k | c) >> (2 * k - 1 - j) & 1 else plus([1], times([-1], z, p), p), p)
-        x, y = left[b % len(left)], right[c % len(right)]
-        total = plus(total, times(term, {0: [0], 1: plus(x, y, p), 2: times(x, y, p)}[kind], p), p)
-    return total
-
-
-def honest(circuit, inputs, coins):
-    """The honest messages."""
-    p, values, messages = circuit[0], values_of(circuit, inputs), []
-    for j, (layer, turn) in enumerate(places(circuit)):
-        k, table = exponent(circuit, layer), [[value] for value in values[layer]]
-        u, v, _ = own_coins(circuit, layer, coins[:j])
-        if turn < 2 * k:
-            messages.append(honest_sum(p, layers(circuit)[layer - 1], table, k, point_at(circuit, layer, coins), u + v))
-        else:
-            messages.append(fixed(table, [[x, (y - x) % p] for x, y in zip(u, v)], p)[0])
-    return messages
-
+# Transcripts, from which the edges of check, open, step and prove are made: circuit, input, output, coins, and the list of messages.
 
 def transcript(circuit, inputs, coins):
     """The honest transcript."""
@@ -472,6 +556,14 @@ def open_of(circuit, inputs, output, coins):
 
 def step_of(circuit, inputs, coins, record, message):
     return "step", {"circuit": circuit, "input": inputs, "coins": coins, "record": record, "message": message}
+
+
+def prove_of(circuit, inputs, coins, count):
+    return "prove", {"circuit": circuit, "input": inputs, "coins": coins, "buf": buffer(count)}
+
+
+def prove_one_of(circuit, inputs, prefix, count):
+    return "prove_one", {"circuit": circuit, "input": inputs, "coins": prefix, "buf": buffer(count)}
 
 
 def session_of(circuit, inputs, output, coins, messages):
@@ -508,6 +600,48 @@ def counts():
     found = "count", check_of(circuit, inputs, output, [], messages)[1]
     assert answer(*found)[0][1] <= 845
     yield found
+
+
+def best_messages(circuit, inputs):
+    """Of all rules the best, found by trying all messages: after some coins and for a standing claim, on how many lists of the coins to
+    come it is accepted, and its message."""
+    p, rounds = circuit[0], places(circuit)
+    best = {past: [(int(last_cause(circuit, inputs, list(past), claim) == 0), ()) for claim in range(p)]
+            for past in itertools.product(range(p), repeat=len(rounds))}
+    for j in reversed(range(len(rounds))):
+        length = message_length(circuit, *rounds[j])
+        for past in itertools.product(range(p), repeat=j):
+            found = best[past] = [(0, (0,) * length)] * p
+            for message in itertools.product(range(p), repeat=length):
+                claim = compared(circuit, *rounds[j], list(past), message)
+                accepted = sum(best[past + (coin,)][value_at(message, coin, p)][0] for coin in range(p))
+                found[claim] = max(found[claim], (accepted, message))
+    return best
+
+
+def rule_words(circuit, best, output):
+    """The words of the best rule's messages for an output, in the order that rule_messages takes."""
+    p, claims, rule = circuit[0], {(): output}, []
+    for j in range(len(places(circuit))):
+        for past in itertools.product(range(p), repeat=j):
+            message = best[past][claims[past]][1]
+            rule += message
+            claims.update({past + (coin,): value_at(message, coin, p) for coin in range(p)})
+    return rule
+
+
+def prove_counts():
+    """The counts over all coin lists of the prover's messages, and of the best rule's for each output. A message of degree d has d lucky
+    coins, and the best rule for a false output is refused only where all three coins are others: on 11 × 11 × 12 lists."""
+    circuit, inputs, output, _, _ = next(worked())
+    best, lists = best_messages(circuit, inputs), {"circuit": circuit, "input": inputs, "coins": []}
+    found = [(op, dict(lists, output=output), 13 ** 3) for op in ("count whole", "count single")]
+    for stated in range(13):
+        args = dict(lists, output=stated, rule=rule_words(circuit, best, stated))
+        found.append(("count rule", args, 13 ** 3 if stated == output else 13 ** 3 - 11 * 11 * 12))
+    for op, args, accepted in found:
+        assert answer(op, args)[0] == ["accepted on", accepted, "by check,", accepted, "by session"]
+        yield op, args
 
 
 def shapes():
@@ -618,11 +752,16 @@ def orders():
     messages = [(14, more("messages")), (14, fewer("messages")), (15, put("messages", 0, p)), (16, next_word("messages", 1)),
                 (17, next_word("messages", 7)), (18, next_word("input", 1))]
     message = [(14, more("message")), (14, fewer("message")), (15, put("message", 0, p))]
+    circuit, inputs, _, all_coins, _ = lists
+    prefix = [(11, lambda args: args.update(coins=args["coins"] + all_coins[2:])), (12, put("coins", 0, p))]
+    short = [(10, fewer("buf"))]
     for (op, args), found in (
             (check_of(*lists), legal + output + coins + messages),
             (first, legal + output + coins),
             (steps[0], legal + coins + record + message + [(16, next_word("message", 1))]),
-            (steps[5], legal + coins + record + message + [(17, next_word("message", 1)), (18, next_word("input", 1))])):
+            (steps[5], legal + coins + record + message + [(17, next_word("message", 1)), (18, next_word("input", 1))]),
+            (prove_of(circuit, inputs, all_coins, 16), legal + coins + short),
+            (prove_one_of(circuit, inputs, all_coins[:2], 2), legal + prefix + short)):
         pairs = [(x, [other, fault]) for (x, fault), (y, other) in itertools.combinations(found, 2) if x != y]
         for number, changes in [(x, [fault]) for x, fault in found] + pairs:
             changed = copy.deepcopy(args)
@@ -630,6 +769,59 @@ def orders():
                 change(changed)
             assert answer(op, changed)[0] == ["refused", number]
             yield op, changed
+
+
+def proofs():
+    """Proofs of the worked circuits, of all shapes and of circuits whose gates are all empty: the whole one with buffers and coins about as
+    long as they must be, and every single message with buffers about as long as it; then prefixes of none, n and more coins with no
+    buffer."""
+    empty = [transcript(circuit_of(Draw(p), p, exponents, kinds=(0,)), [p - 1 - b for b in range(2 ** exponents[-1])], coins)
+             for p, exponents, coins in ((13, [2], [5] * 5), (PRIMES[3], [1, 1], [2, 3, 4, 5, 6, 7]), (65537, [0, 1], [65536] * 4))]
+    seen = []
+    for circuit, inputs, _, coins, _ in itertools.chain(worked(), shapes(), empty):
+        if (circuit, inputs, coins) in seen:
+            continue
+        seen.append((circuit, inputs, coins))
+        if load(circuit):
+            yield prove_of(circuit, inputs, coins, 30)
+            yield prove_one_of(circuit, inputs, coins[:1], 30)
+            continue
+        counts_of = [message_length(circuit, *place) for place in places(circuit)]
+        total = sum(counts_of)
+        for count in (0, total - 1, total, total + 1, total + 30):
+            yield prove_of(circuit, inputs, coins, count)
+        for changed in ([], coins[:-1], coins + [0]):
+            yield prove_of(circuit, inputs, changed, total)
+        for j, length in enumerate(counts_of):
+            for count in (length - 1, length, length + 1):
+                yield prove_one_of(circuit, inputs, coins[:j], count)
+        for prefix in ([], coins, coins + [0]):
+            yield prove_one_of(circuit, inputs, prefix, 0)
+
+
+def proof_words_at_p():
+    """A word p - 1, p or 2^32 - 1 in each place of the coins and of the input of a proof."""
+    for p in PRIMES:
+        circuit, inputs, _, coins, _ = some_transcript(p, p, [1])
+        for word in (p - 1, p, 2 ** 32 - 1):
+            for changed in one_changed(coins, word):
+                yield prove_of(circuit, inputs, changed, 9)
+            for changed in one_changed(coins[:-1], word):
+                yield prove_one_of(circuit, inputs, changed, 3)
+            for changed in one_changed(inputs, word):
+                yield prove_of(circuit, changed, coins, 9)
+                yield prove_one_of(circuit, changed, coins[:-1], 3)
+
+
+def largest_proofs():
+    """Proofs of the largest circuit: the whole one, and a sum message and a line message in its middle."""
+    circuit, inputs = largest()
+    draw = Draw(912)
+    coins = [draw.below(circuit[0]) for _ in places(circuit)]
+    yield prove_of(circuit, inputs, coins, 913)
+    yield prove_of(circuit, inputs, coins, 911)
+    for place in ((8, 5), (9, 16)):
+        yield prove_one_of(circuit, inputs, coins[:places(circuit).index(place)], 10)
 
 
 def two_messages():
@@ -659,6 +851,7 @@ def edges():
         yield check_of(*lists)
         yield from session_of(*lists)
     yield from itertools.chain(counts(), words_at_p(), lengths(), records(), orders(), two_messages(), largest_edges())
+    yield from itertools.chain(proofs(), proof_words_at_p(), largest_proofs(), prove_counts())
     for circuit in load_edges():
         yield "load", {"circuit": circuit}
     for circuit, inputs, count in evaluate_edges():
@@ -696,6 +889,11 @@ def case(op, args):
     if op in ("load", "evaluate"):
         number = {"load": 1, "evaluate": 2}[op]
         return "cases_circuit", lists + [buf], word(number) + lent(buf) + b"".join(part(words(l)) for l in lists)
+    if op in ("prove", "prove_one", "count whole", "count single", "count rule"):
+        number = {"prove": 1, "prove_one": 2, "count whole": 3, "count single": 4, "count rule": 5}[op]
+        numbers = words([args["output"]]) if "output" in args else lent(buf)
+        lists += [args["coins"], args.get("rule", [])]
+        return "cases_prove", lists + [buf], word(number) + part(numbers) + b"".join(part(words(l)) for l in lists)
     number = {"check": 1, "open": 2, "step": 3, "count": 4}[op]
     numbers = [args["record"][name] for name in FIGURES] if op == "step" else [args["output"]]
     lists += [args["coins"], args.get("messages", args.get("message", []))]
@@ -727,7 +925,7 @@ def main():
         for text in vectors:
             vector = json.loads(text)
             op, args = vector["op"], vector["args"]
-            if op in ("load", "evaluate", "read", "check", "open", "step"):
+            if op in ("load", "evaluate", "read", "check", "open", "step", "prove", "prove_one"):
                 expected = vector["answer"], vector["after"]
                 assert answer(op, args) == expected, text
                 found.append((op, args, expected))
@@ -736,6 +934,9 @@ def main():
     stdin = {name: b"" for name in LIMITS}
     stdout = {name: "" for name in LIMITS}
     for op, args, expected in found:
+        if expected[0][0] == "proved":
+            _, output, count = expected[0]
+            assert check(args["circuit"], args["input"], output, args["coins"], expected[1]["buf"][:count]) == ["accepted"]
         name, lists, data = case(op, args)
         most = LIMITS[name]
         assert len(data) <= most[0] and len(lists[0]) <= most[1] and all(len(l) <= most[2] for l in lists[1:])
