@@ -101,9 +101,7 @@ fn row(coordinates: &[u32]) -> [u32; MAX_COORDINATES]
     ensures { λ r. ⌜ Row (take maxExponent (now (coordinates .entry))) r ⌝ }
 {
     let mut row = [0u32; MAX_COORDINATES];
-    for i in 0..lists::least(coordinates.len(), MAX_COORDINATES) {
-        row[i] = coordinates[i];
-    }
+    lists::put(&mut row, coordinates);
     row
 }
 
