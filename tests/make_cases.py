@@ -1,6 +1,6 @@
 #!/usr/bin/env python3
-"""Makes the cases of the programs cases_circuit, cases_xdr, cases_check and cases_prove: what they read (stdin) and what they must print
-(stdout).
+"""Makes what test programs read (stdin) and what they must print (stdout): the cases of cases_circuit, cases_xdr, cases_check,
+cases_prove and transcript_cases, and the input of transcript and of transcript_long.
 
     tests/make_cases.py VECTORS
 
@@ -8,10 +8,10 @@ VECTORS has a case of an operation on each line, a JSON object {"op", "args", "a
 record as it is before the call, the expected answer, and the buffer or record after it; bytes are hex. It comes from an implementation
 that shares nothing with this repository. Cases of other operations are passed over.
 
-Cases at the edges are added. Their answers come from the functions load, evaluate, read, check, opening, step, prove and prove_one below,
-which follow the specification word by word; they must first give the answer of every case in VECTORS. No answer comes from a program of
-this repository. Some cases more are counts: on how many of all coin lists the messages of C7 are accepted, those of the prover, and those
-of the best rule for each output.
+Cases at the edges are added. Their answers come from the functions load, evaluate, read, check, opening, step, prove, prove_one and
+printed below, which follow the specification word by word; they must first give the answer of every case in VECTORS. No answer comes from
+a program of this repository. Some cases more are counts: on how many of all coin lists the messages of C7 are accepted, those of the
+prover, and those of the best rule for each output.
 
 The form of a case stands at the top of each program, that of a printed buffer in the crate cases.
 """
@@ -27,7 +27,9 @@ SENTINEL = 4242424242
 FIGURES = ("layer", "round", "claim", "open")
 # The limits of the programs: bytes of a case, words of its first list, and of the others.
 LIMITS = {"cases_circuit": (65536, 16384, 16384), "cases_xdr": (262144, 65536, 0), "cases_check": (65536, 16384, 1024),
-          "cases_prove": (65536, 16384, 1024)}
+          "cases_prove": (65536, 16384, 1024), "transcript_cases": (131072, 0, 0)}
+# The bytes that the program transcript takes.
+MAX_BYTES = 65536
 
 
 # The specification. A refusal is its number, 0 where there is none.
@@ -371,9 +373,36 @@ def accepted_on(circuit, inputs, output, messages_on):
     return ["accepted on", by_check, "by check,", by_session, "by session"]
 
 
+def text_line(word, numbers):
+    return " ".join([word] + [str(n) for n in numbers]) + "\n"
+
+
+def printed(data):
+    """What the program transcript prints."""
+    given, words = (["refused", 20], []) if len(data) > MAX_BYTES else read(3, data, [0] * MAX_BYTES)
+    if given[0] == "refused":
+        return text_line("refused", [20])
+    _, first, second, third, _ = given
+    circuit, inputs, coins = words[:first], words[first:first + second], words[first + second:first + second + third]
+    cause = lists_cause(circuit, inputs) or coins_cause(circuit, coins)
+    if cause:
+        return text_line("refused", [cause])
+    text = text_line("claim", values_of(circuit, inputs)[0])
+    for (layer, turn), message in zip(places(circuit), honest(circuit, inputs, coins)):
+        text += text_line("line" if turn == 2 * exponent(circuit, layer) else "sum", message)
+    return text
+
+
+def transcript_bytes(args):
+    """What the program transcript reads, given as bytes or as its three lists."""
+    return bytes.fromhex(args["bytes"]) if "bytes" in args else arrays(args["circuit"], args["input"], args["coins"])
+
+
 def answer(op, args):
     """The answer, and the buffer or record after it."""
     circuit, inputs, coins = args.get("circuit"), args.get("input"), args.get("coins")
+    if op == "transcript":
+        return printed(transcript_bytes(args)), {}
     if op == "load":
         cause = load(circuit)
         return (["refused", cause] if cause else ["legal"]), {}
@@ -577,6 +606,10 @@ def session_of(circuit, inputs, output, coins, messages):
         record = answer(*following)[1]["record"]
 
 
+def transcript_of(circuit, inputs, coins):
+    return "transcript", {"circuit": circuit, "input": inputs, "coins": coins}
+
+
 def worked():
     """The specification's cases C1 to C12."""
     circuit, inputs, coins, first, second, line = [13, 1, 1, 2, 0, 1], [3, 5], [4, 6, 9], [2, 8, 3], [0, 5, 12], [11, 4]
@@ -752,22 +785,23 @@ def orders():
     messages = [(14, more("messages")), (14, fewer("messages")), (15, put("messages", 0, p)), (16, next_word("messages", 1)),
                 (17, next_word("messages", 7)), (18, next_word("input", 1))]
     message = [(14, more("message")), (14, fewer("message")), (15, put("message", 0, p))]
-    circuit, inputs, _, all_coins, _ = lists
-    prefix = [(11, lambda args: args.update(coins=args["coins"] + all_coins[2:])), (12, put("coins", 0, p))]
+    circuit, inputs, _, drawn, _ = lists
+    prefix = [(11, lambda args: args.update(coins=args["coins"] + drawn[2:])), (12, put("coins", 0, p))]
     short = [(10, fewer("buf"))]
     for (op, args), found in (
+            (transcript_of(circuit, inputs, drawn), legal + coins),
             (check_of(*lists), legal + output + coins + messages),
             (first, legal + output + coins),
             (steps[0], legal + coins + record + message + [(16, next_word("message", 1))]),
             (steps[5], legal + coins + record + message + [(17, next_word("message", 1)), (18, next_word("input", 1))]),
-            (prove_of(circuit, inputs, all_coins, 16), legal + coins + short),
-            (prove_one_of(circuit, inputs, all_coins[:2], 2), legal + prefix + short)):
+            (prove_of(circuit, inputs, drawn, 16), legal + coins + short),
+            (prove_one_of(circuit, inputs, drawn[:2], 2), legal + prefix + short)):
         pairs = [(x, [other, fault]) for (x, fault), (y, other) in itertools.combinations(found, 2) if x != y]
         for number, changes in [(x, [fault]) for x, fault in found] + pairs:
             changed = copy.deepcopy(args)
             for change in changes:
                 change(changed)
-            assert answer(op, changed)[0] == ["refused", number]
+            assert answer(op, changed)[0] in (["refused", number], f"refused {number}\n")
             yield op, changed
 
 
@@ -846,11 +880,47 @@ def largest_edges():
     yield list(session_of(circuit, inputs, output, coins, messages))[-2]
 
 
+def full_lists():
+    """Three lists whose bytes are as many as the program transcript takes: a legal circuit and input, and more coins than it has."""
+    circuit, inputs = largest()
+    return circuit, inputs, [0] * (MAX_BYTES // 4 - 3 - len(circuit) - len(inputs))
+
+
+def transcript_edges():
+    for circuit, inputs, _, coins, _ in itertools.chain(worked(), shapes()):
+        yield transcript_of(circuit, inputs, coins)
+    draw, (circuit, inputs) = Draw(272), largest()
+    yield transcript_of(circuit, inputs, [draw.below(circuit[0]) for _ in places(circuit)])
+    for p in PRIMES:
+        circuit, inputs, _, coins, _ = some_transcript(p, p, [2, 1])
+        for word in (p - 1, p, 2 ** 32 - 1):
+            for changed in one_changed(coins, word):
+                yield transcript_of(circuit, inputs, changed)
+            for changed in one_changed(inputs, word):
+                yield transcript_of(circuit, changed, coins)
+        for count in (0, 1, len(coins) - 1, len(coins) + 1):
+            yield transcript_of(circuit, inputs, (coins + [1])[:count])
+    # Bytes that are not three arrays: cut off, too many, or with a count that is too large, whether or not its words are there.
+    data = arrays([13, 1, 1, 2, 0, 1], [3, 5], [4, 6, 9])
+    bad = [data[:count] for count in range(len(data))] + [data + bytes(count) for count in (1, 2, 3, 4, 8)]
+    for count in (11541, 11542):
+        bad += [arrays([0] * count, [], []), arrays([], [], [0] * count)]
+    for count in (2 ** 30, 2 ** 31, 2 ** 32 - 1):
+        bad.append(count.to_bytes(4, "big") + data[4:])
+    # As many bytes as are taken, with three arrays or without, and more.
+    circuit, inputs, coins = full_lists()
+    full = arrays(circuit, inputs, coins)
+    bad += [full, arrays(circuit, inputs, coins + [0]), full + bytes(1), full[:-1], bytes(MAX_BYTES), bytes(MAX_BYTES + 1)]
+    assert [printed(data) for data in bad[-6:-4]] == ["refused 11\n", "refused 20\n"] and len(full) == MAX_BYTES
+    for data in bad:
+        yield "transcript", {"bytes": data.hex()}
+
+
 def edges():
     for lists in itertools.chain(worked(), shapes()):
         yield check_of(*lists)
         yield from session_of(*lists)
-    yield from itertools.chain(counts(), words_at_p(), lengths(), records(), orders(), two_messages(), largest_edges())
+    yield from itertools.chain(counts(), words_at_p(), lengths(), records(), orders(), two_messages(), largest_edges(), transcript_edges())
     yield from itertools.chain(proofs(), proof_words_at_p(), largest_proofs(), prove_counts())
     for circuit in load_edges():
         yield "load", {"circuit": circuit}
@@ -882,6 +952,8 @@ def lent(buf):
 
 def case(op, args):
     """The program that runs a case, the lists that must fit into its arrays, and the case's bytes."""
+    if op == "transcript":
+        return "transcript_cases", [[]], part(transcript_bytes(args))
     buf = args.get("buf", [])
     if op == "read":
         return "cases_xdr", [buf], word(args["number"]) + lent(buf) + part(bytes.fromhex(args["bytes"]))
@@ -908,6 +980,9 @@ def checksum(buf):
 
 
 def line(op, expected, after):
+    """What the program prints for a case: a line, or a transcript's own lines."""
+    if op == "transcript":
+        return expected
     text = " ".join(map(str, expected))
     buf, record = after.get("buf"), after.get("record")
     if op == "step" or expected == ["opened"]:
@@ -919,19 +994,30 @@ def line(op, expected, after):
     return text + "\n"
 
 
+def runs():
+    """The programs that read standard input whole: the worked example, and a byte more than is taken."""
+    yield "transcript", arrays([13, 1, 1, 2, 0, 1], [3, 5], [4, 6, 9])
+    yield "transcript_long", arrays(*full_lists()) + bytes(1)
+
+
+def write(name, stdin, stdout):
+    (CRATES / name / "stdin").write_bytes(stdin)
+    (CRATES / name / "stdout").write_text(stdout, encoding="ascii")
+
+
 def main():
     found = []
     with open(sys.argv[1], encoding="utf8") as vectors:
         for text in vectors:
             vector = json.loads(text)
             op, args = vector["op"], vector["args"]
-            if op in ("load", "evaluate", "read", "check", "open", "step", "prove", "prove_one"):
+            if op in ("load", "evaluate", "read", "check", "open", "step", "prove", "prove_one", "transcript"):
                 expected = vector["answer"], vector["after"]
                 assert answer(op, args) == expected, text
                 found.append((op, args, expected))
     given = len(found)
     found += [(op, args, answer(op, args)) for op, args in edges()]
-    stdin = {name: b"" for name in LIMITS}
+    stdin = {name: [] for name in LIMITS}
     stdout = {name: "" for name in LIMITS}
     for op, args, expected in found:
         if expected[0][0] == "proved":
@@ -940,13 +1026,15 @@ def main():
         name, lists, data = case(op, args)
         most = LIMITS[name]
         assert len(data) <= most[0] and len(lists[0]) <= most[1] and all(len(l) <= most[2] for l in lists[1:])
-        stdin[name] += part(data)
+        stdin[name].append(part(data))
         stdout[name] += line(op, *expected)
-    for name in LIMITS:
-        (CRATES / name / "stdin").write_bytes(stdin[name])
-        (CRATES / name / "stdout").write_text(stdout[name], encoding="ascii")
-        print(f"{name}: {stdout[name].count(chr(10))} cases, {len(stdin[name])} bytes")
+    for name, cases in stdin.items():
+        write(name, b"".join(cases), stdout[name])
+        print(f"{name}: {len(cases)} cases, {sum(map(len, cases))} bytes")
     print(f"{given} of them from {sys.argv[1]}")
+    for name, data in runs():
+        write(name, data, printed(data))
+        print(f"{name}: {len(data)} bytes")
 
 
 if __name__ == "__main__":

@@ -7,3 +7,4 @@ pub mod Check
 pub mod Session
 pub mod Theorems
 pub mod Places
+pub mod Proved

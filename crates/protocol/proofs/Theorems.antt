@@ -27,7 +27,7 @@ use Rattle.protocol.specs.Judge.{messageLength, descent}
 use Rattle.protocol.specs.Session.{openedAt, steps}
 use Rattle.protocol.specs.Prove.{honest, transcript}
 use Rattle.protocol.specs.Accept.{FitsCircuit, wholeAccepts, sessionAccepts}
-use Rattle.protocol.specs.Theorems.{Complete, Sound, Sharp, Demand3, SameEnd, SameAcceptance, NoEarlyCoin, HonestByPrefix, HonestFits}
+use Rattle.protocol.specs.Theorems.{Complete, Sound, Sharp, SameEnd, SameAcceptance, NoEarlyCoin, HonestByPrefix, HonestFits}
 use Rattle.protocol.proofs.Rounds.{chain-all, as-many}
 use Rattle.protocol.proofs.Sums.{message-words}
 use Rattle.protocol.proofs.Descent.{Stands, rounds-head, stands-first, false-output, false-output-sharp, true-output}
@@ -119,9 +119,6 @@ session-sharp c input legal y ne rule fits =
 pub session-complete : Complete sessionAccepts
 session-complete c input legal cs v =
     same-acceptance c input legal (value c input) (honest c input) (honest-fits c input legal) cs v ∙ whole-complete c input legal cs v
-
-pub demand3 : Demand3
-demand3 = record { whole-complete = whole-complete; whole-sound = whole-sound; session-complete = session-complete; session-sound = session-sound }
 
 pub same-end : SameEnd
 unfolding descent

@@ -5,6 +5,7 @@ use mathlib.Core.Path.{_≡_}
 use mathlib.Core.Bool.{Bool, true}
 use mathlib.Core.List.{List, [], _++_, map}
 use lib.ListN.{length, take, getD}
+use Rattle.lists.specs.Buffer.{over}
 use Rattle.counting.specs.Coins.{CoinList, passing}
 use Rattle.counting.specs.Doomed.{luckless}
 use Rattle.circuit.specs.Circuit.{primeOf, coinCount, messageWords, exponentSum}
@@ -16,7 +17,7 @@ use Rattle.protocol.specs.Rounds.{Place, rounds}
 use Rattle.protocol.specs.Judge.{messageLength, descent}
 use Rattle.protocol.specs.Check.{checkAnswer}
 use Rattle.protocol.specs.Session.{openCause, openedAt, steps}
-use Rattle.protocol.specs.Prove.{honest, placeOf}
+use Rattle.protocol.specs.Prove.{honest, placeOf, proved, wrote, proveAnswer, proveBuffer, proveOneAnswer, proveOneBuffer}
 use Rattle.protocol.specs.Accept.{FitsCircuit, wholeAccepts, sessionAccepts}
 
 -- acceptance of a coin list, for a circuit, an input, an output and a rule
@@ -36,12 +37,26 @@ Sound accepts =
     (c input : List ℕ) → listsCause c input ≡ 0 → (y : ℕ) → ¬ (y ≡ value c input) → (rule : Rule Place) → FitsCircuit c input rule
     → passing (primeOf c) (coinCount c) (accepts c input y rule) ≤ 5 * exponentSum c * primeOf c ^ (coinCount c - 1)
 
--- DEMAND 3, "alike for the whole check and for a session"
+-- CODE ON BOTH SIDES: "Both forms of Prove write them where the buffer is long enough". The output that Prove answers is accepted with the words
+-- that it wrote, whatever the coins; and the message that it writes for a prefix of the coins is the one that the session waits for there.
+abbrev pub ProvedAccepted : Type 0
+ProvedAccepted =
+    (c input cs buffer : List ℕ) (y n : ℕ) → proveAnswer c input cs buffer ≡ proved y n
+    → checkAnswer c input y cs (take n (proveBuffer c input cs buffer)) ≡ 0
+
+abbrev pub ProvedInTurn : Type 0
+ProvedInTurn =
+    (c input cs buffer : List ℕ) (j n : ℕ) → length cs ≡ coinCount c → proveOneAnswer c input (take j cs) buffer ≡ wrote n
+    → proveOneBuffer c input (take j cs) buffer ≡ over (getD (said (descent c input) (honest c input) (rounds c) [] cs) j []) buffer
+
+-- DEMAND 3, "alike for the whole check and for a session". The definitions are those that the contracts of Prove, Check, Open and Step cite.
 pub record Demand3 : Type 0 where
   pub whole-complete : Complete wholeAccepts
   pub whole-sound : Sound wholeAccepts
   pub session-complete : Complete sessionAccepts
   pub session-sound : Sound sessionAccepts
+  pub proved-accepted : ProvedAccepted
+  pub proved-in-turn : ProvedInTurn
 
 -- beyond it, the sharp bound: of the p^n coin lists those are refused on which no coin is lucky, a message of d + 1 words having at most d
 -- lucky coins

@@ -134,33 +134,17 @@ module _ (c : List ℕ) (past : List ℕ) where
       let e : 1 ≡ layer = omega arith in
       subst (λ (i : ℕ). Row (pointAt c i past) r) e (record { size = n; holds = refl })
 
--- the lesser of a list's length and k: as many words as its first k
-pub record Least (k : ℕ) (l : List ℕ) (r : ℕ) : Type 0 where
-  pub inside : r ≤ length l
-  pub small : r ≤ k
-  pub counted : r ≡ length (take k l)
-  pub front : take r l ≡ take k l
-  pub rest : drop r l ≡ drop k l
-
-pub least-of : (k : ℕ) (l : List ℕ) (r : ℕ) → r ≡ min (length l) k → Least k l r
-least-of k l r e = go (decLt (length l) k)
+-- the lesser of a list's length and k takes as many words as k
+pub least-front : (k : ℕ) (l : List ℕ) (r : ℕ) → r ≡ min (length l) k → take r l ≡ take k l
+least-front k l r e = go (decLt (length l) k)
   where
-    go : Dec (length l < k) → Least k l r
-    go (yes h) =
-        let s : r ≡ length l = omega arith in
-        record {
-          inside = omega arith;
-          small = omega arith;
-          counted = s ∙ ap length (sym (take-all k l (omega arith)));
-          front = take-all r l (omega arith) ∙ sym (take-all k l (omega arith));
-          rest = drop-of-length-le l {i = r} (omega arith) ∙ sym (drop-of-length-le l {i = k} (omega arith));
-        }
-    go (no h) =
-        let s : r ≡ k = omega arith in
-        record {
-          inside = omega arith;
-          small = omega arith;
-          counted = s ∙ sym (length-take-le k l (omega arith));
-          front = ap (λ (i : ℕ). take i l) s;
-          rest = ap (λ (i : ℕ). drop i l) s;
-        }
+    go : Dec (length l < k) → take r l ≡ take k l
+    go (yes h) = take-all r l (omega arith) ∙ sym (take-all k l (omega arith))
+    go (no h) = let s : r ≡ k = omega arith in ap (λ (i : ℕ). take i l) s
+
+pub least-rest : (k : ℕ) (l : List ℕ) (r : ℕ) → r ≡ min (length l) k → drop r l ≡ drop k l
+least-rest k l r e = go (decLt (length l) k)
+  where
+    go : Dec (length l < k) → drop r l ≡ drop k l
+    go (yes h) = drop-of-length-le l {i = r} (omega arith) ∙ sym (drop-of-length-le l {i = k} (omega arith))
+    go (no h) = let s : r ≡ k = omega arith in ap (λ (i : ℕ). drop i l) s

@@ -18,7 +18,7 @@ use Rattle.protocol.proofs.Points.{point-more}
 use Rattle.standing.specs.Standing.{AtLayer, AtRound, Row, Stands, gatesFrom}
 use Rattle.standing.specs.declared.Stand.{Stand}
 use Rattle.standing.proofs.Gates.{exponent-small, gates-at, gates-next, gates-room}
-use Rattle.standing.proofs.Points.{least-of, row-whole, point-length}
+use Rattle.standing.proofs.Points.{least-front, least-rest, row-whole, point-length}
 
 -- the gates of a part of the list
 gates-in : (c : List ℕ) → LegalCircuit c → (l from to : ℕ) → l < depth c → from ≡ gatesFrom c l → to ≡ gatesFrom c (suc l)
@@ -100,12 +100,12 @@ module _ (c : List ℕ) (layer round : ℕ) (past : List ℕ) (h : AtRound c lay
         let small : k ≤ maxExponent = own-small in
         let reached : round ≤ 2 * k = h .reached in
         let size : length xs ≡ round = own-coins in
-        let part = least-of (s .own) xs first (ef ∙ ap (λ (n : ℕ). min n (s .own)) (sym size)) in
+        let fewer = ef ∙ ap (λ (n : ℕ). min n (s .own)) (sym size) in
         let cut : start + first - start ≡ first = omega arith in
         let eu : take (start + first - start) (drop start past) ≡ take k xs =
-        ap₂ (λ (n i : ℕ). take n (drop i past)) cut at ∙ part .front ∙ ap (λ (n : ℕ). take n xs) ek in
+        ap₂ (λ (n i : ℕ). take n (drop i past)) cut at ∙ least-front (s .own) xs first fewer ∙ ap (λ (n : ℕ). take n xs) ek in
         let ev : drop (start + first) past ≡ drop k xs =
-        ap (λ (i : ℕ). drop (i + first) past) at ∙ sym (drop-drop first (layerStart c layer) past) ∙ part .rest ∙ ap (λ (n : ℕ). drop n xs) ek in
+        ap (λ (i : ℕ). drop (i + first) past) at ∙ sym (drop-drop first (layerStart c layer) past) ∙ least-rest (s .own) xs first fewer ∙ ap (λ (n : ℕ). drop n xs) ek in
         let l : ℕ = layer - 1 in
         let up : suc l ≡ layer = omega arith in
         let to′ : s .to ≡ gatesFrom c (suc l) = to ∙ ap (gatesFrom c) (sym up) in

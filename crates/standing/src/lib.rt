@@ -7,7 +7,7 @@ use refusal::Cause;
 use refusal::Checked;
 ghost use mathlib.Core.Path.{_≡_};
 ghost use Prim.Native.Nat.{_+_, _-_, _*_, _≤_};
-ghost use lib.ListN.{take, getD};
+ghost use lib.ListN.{take};
 ghost use Rattle.refusal.specs.Number.{causeOf};
 ghost use Rattle.circuit.specs.Limits.{maxExponent};
 ghost use Rattle.circuit.specs.Circuit.{depth, exponents, exponentAt, coinCount, messageWords};
@@ -17,16 +17,6 @@ ghost use Rattle.protocol.specs.Judge.{pointAt, messageLength};
 ghost use Rattle.protocol.specs.Check.{needCoins};
 ghost use Rattle.standing.specs.Standing.{AtLayer, AtRound, gatesFrom, GatesBefore, layerSum, LayerSoFar, Row, Stands};
 
-// A list's word, 0 past its end.
-fn word(list: &[u32], at: usize) -> u32
-    ensures { λ r. ⌜ r ≡ getD (now (list .entry)) at 0 ⌝ }
-{
-    if at < list.len() {
-        return list[at];
-    }
-    0
-}
-
 // The width exponent of a layer, 0 for one that the list has not.
 pub fn exponent(circuit: &[u32], layer: usize) -> u32
     ensures { λ r. ⌜ r ≡ exponentAt (now (circuit .entry)) layer ⌝ }
@@ -34,10 +24,10 @@ pub fn exponent(circuit: &[u32], layer: usize) -> u32
     if layer == 0 {
         return 0;
     }
-    if (word(circuit, 1) as usize) < layer {
+    if (lists::word(circuit, 1) as usize) < layer {
         return 0;
     }
-    word(circuit, 1 + layer)
+    lists::word(circuit, 1 + layer)
 }
 
 // Whether a round is its layer's line.
@@ -83,14 +73,14 @@ pub fn coins_before(circuit: &[u32], layer: usize) -> usize
 pub fn coin_count(circuit: &[u32]) -> usize
     ensures { λ r. ⌜ (LegalCircuit (now (circuit .entry)) → r ≡ coinCount (now (circuit .entry))) ⌝ }
 {
-    sum_layers(circuit, 2, word(circuit, 1) as usize + 1)
+    sum_layers(circuit, 2, lists::word(circuit, 1) as usize + 1)
 }
 
 // The words of all its messages.
 pub fn message_words(circuit: &[u32]) -> usize
     ensures { λ r. ⌜ (LegalCircuit (now (circuit .entry)) → r ≡ messageWords (now (circuit .entry))) ⌝ }
 {
-    sum_layers(circuit, 7, word(circuit, 1) as usize + 1)
+    sum_layers(circuit, 7, lists::word(circuit, 1) as usize + 1)
 }
 
 // The refusals 11 and 12.
@@ -100,7 +90,7 @@ pub fn check_coins(circuit: &[u32], coins: &[u32]) -> Checked
     if coins.len() != coin_count(circuit) {
         return Checked::Refused(Cause::CoinCount);
     }
-    if !legality::all_below(coins, word(circuit, 0)) {
+    if !legality::all_below(coins, lists::word(circuit, 0)) {
         return Checked::Refused(Cause::CoinWord);
     }
     Checked::Legal
@@ -111,9 +101,7 @@ fn row(coordinates: &[u32]) -> [u32; MAX_COORDINATES]
     ensures { λ r. ⌜ Row (take maxExponent (now (coordinates .entry))) r ⌝ }
 {
     let mut row = [0u32; MAX_COORDINATES];
-    for i in 0..lists::least(coordinates.len(), MAX_COORDINATES) {
-        row[i] = coordinates[i];
-    }
+    lists::put(&mut row, coordinates);
     row
 }
 
@@ -132,7 +120,7 @@ pub fn standing_point(circuit: &[u32], layer: usize, past: &[u32]) -> [u32; MAX_
     let v = t - k;
     let u = v - k;
     let points = [row(&past[u..v]), row(&past[v..t])];
-    summand::line_point(Field::of(word(circuit, 0)), points, past[t])
+    summand::line_point(Field::of(lists::word(circuit, 0)), points, past[t])
 }
 
 // The gates of the layers before one.
@@ -153,7 +141,7 @@ pub fn gates_before(circuit: &[u32], layer: usize) -> usize
 fn gates_from(circuit: &[u32], layer: usize) -> usize
     ensures { λ r. ⌜ (LegalCircuit (now (circuit .entry)) → layer ≤ depth (now (circuit .entry)) → r ≡ gatesFrom (now (circuit .entry)) layer) ⌝ }
 {
-    2 + word(circuit, 1) as usize + 3 * gates_before(circuit, layer)
+    2 + lists::word(circuit, 1) as usize + 3 * gates_before(circuit, layer)
 }
 
 // What stands at a round: the exponents of the layer above and of its own, the part of the list with the gates above, the standing point, and

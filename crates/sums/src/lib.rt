@@ -6,7 +6,7 @@ ghost use mathlib.Core.Path.{_≡_};
 ghost use mathlib.Core.List.{[]};
 ghost use Prim.Native.Nat.{_≤_, min};
 ghost use lib.Dec.{ltb, leb};
-ghost use lib.ListN.{take, getD};
+ghost use lib.ListN.{take};
 ghost use Rattle.field.specs.Modulus.{numbers};
 ghost use Rattle.tables.specs.Table.{maxWidth};
 ghost use Rattle.circuit.specs.Limits.{maxExponent};
@@ -60,16 +60,6 @@ fn cut_at(k: usize, fixed: usize, next: bool) -> Cut
     }
 }
 
-// An entry of a table, 0 past its end.
-fn entry(table: &[u32], i: usize) -> u32
-    ensures { λ r. ⌜ r ≡ getD (now (table .entry)) i 0 ⌝ }
-{
-    if i < table.len() {
-        return table[i];
-    }
-    0
-}
-
 // A wire, by the tables of one point.
 fn read_wire(shares: &[u32], table: &[u32], c: Cut, wire: u32) -> Wire
     requires { ⌜ Fits c ⌝ }
@@ -81,9 +71,9 @@ fn read_wire(shares: &[u32], table: &[u32], c: Cut, wire: u32) -> Wire
     let up = low + c.half;
     let turned = if up < c.size { up } else { up - c.size };
     Wire {
-        share: entry(shares, high),
-        own: entry(table, low),
-        other: entry(table, turned),
+        share: lists::word(shares, high),
+        own: lists::word(table, low),
+        other: lists::word(table, turned),
         one: turned < low,
     }
 }
@@ -135,7 +125,7 @@ fn by_gates(
         let g = 3 * a;
         let left = read_wire(lshares, ltable, lcut, gates[g + 1]);
         let right = read_wire(rshares, rtable, rcut, gates[g + 2]);
-        let counts = count_gate(f, gates[g], entry(weights, a), left, right);
+        let counts = count_gate(f, gates[g], lists::word(weights, a), left, right);
         zeros = f.add(counts.zeros, zeros);
         ones = f.add(counts.ones, ones);
         squares = f.add(counts.squares, squares);

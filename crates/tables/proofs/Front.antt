@@ -1,20 +1,14 @@
--- Lists at the front of a table: one entry more, all of them, and a front that was lent and written over.
+-- Lists at the front of a table, and a front that was lent and written over.
 -- Assumes nothing.
 use mathlib.Core.Path.{_≡_, sym, ap, _∙_}
-use mathlib.Core.List.{List, [], _∷_, _++_, append-assoc}
-use Prim.Native.Nat.{ℕ, _+_, _≤_, _<_}
-use native.Mathlib.Numerals.{add-one}
+use mathlib.Core.List.{List, _++_, append-assoc}
+use Prim.Native.Nat.{ℕ, _+_, _≤_}
 use native.Mathlib.Omega.{arith}
-use lib.ListN.{length, take, drop, getD, set}
-use lib.Seq.{length-take-le, length-front, take-append-seam, take-suc, take-suc-set}
+use lib.ListN.{length, take, drop}
+use lib.Seq.{length-take-le, length-front, take-append-seam}
 use Rattle.lists.specs.Buffer.{over}
 use Rattle.lists.proofs.Buffer.{length-over}
 use Rattle.tables.specs.Table.{maxWidth, Table}
-
-pub place-next : {A : Type 0} (vs l : List A) (i : ℕ) (d : A) → i < length vs → i < length l → take i l ≡ take i vs
-    → take (i + 1) (set l i (getD vs i d)) ≡ take (i + 1) vs
-place-next {A} vs l i d h h′ e =
-    rw (add-one i) (take-suc-set l i (getD vs i d) h′ ∙ ap (λ (t : List A). t ++ (getD vs i d ∷ [])) e ∙ sym (take-suc vs i d h))
 
 pub table : (vs l : List ℕ) (n : ℕ) → length l ≡ maxWidth → n ≤ maxWidth → take n l ≡ vs → Table vs l
 table vs l n size h e =

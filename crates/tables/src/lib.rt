@@ -61,9 +61,7 @@ fn placed(values: &[u32]) -> [u32; MAX_WIDTH]
     ensures { λ r. ⌜ Table (take maxWidth (now (values .entry))) r ⌝ }
 {
     let mut table = [0u32; MAX_WIDTH];
-    for i in 0..lists::least(MAX_WIDTH, values.len()) {
-        table[i] = values[i];
-    }
+    lists::put(&mut table, values);
     table
 }
 

@@ -211,3 +211,22 @@ front-some false w n e = absurd (let z : _≡_ {A = ℕ} 0 1 = cc in omega arith
 pub front-none : (b : Bool) (w : ℕ) → Unfit ≡ cond b (Count w) Unfit → b ≡ false
 front-none true w e = absurd (let z : _≡_ {A = ℕ} 0 1 = cc in omega arith)
 front-none false w e = refl
+
+-- FOUR BYTES A WORD
+-- the words of all arrays are no more than a quarter of the bytes
+pub words-few : (n : ℕ) (l : List ℕ) → 4 * length (wordsOf (arrays n l)) ≤ length l
+unfolding arrays wordsOf flatten
+words-few zero l = go (eqb (length l) 0)
+  where
+    go : (b : Bool) → 4 * length (wordsOf (cond b (some []) none)) ≤ length l
+    go true = omega arith
+    go false = omega arith
+words-few (suc n) l = go (whole l) refl (arrays n (behind l)) (words-few n (behind l))
+  where
+    go : (b : Bool) → whole l ≡ b → (found : Option (List (List ℕ))) → 4 * length (wordsOf found) ≤ length (behind l)
+        → 4 * length (wordsOf (cond b (prepend (front l) found) none)) ≤ length l
+    go true e none few = omega arith
+    go true e (some ls) few =
+        let fits = whole-fits l e in
+        rw length-append (omega (arith, few, fits .1, length-front l (fits .1), length-drop (size (firstWord l)) l))
+    go false e found few = omega arith

@@ -54,8 +54,8 @@ mul-count-gate c = search needs
 shared-slice-read-count-gate : tie.Need-shared-slice-read-count-gate Inv-loop μ-loop
 shared-slice-read-count-gate c = search needs
 
-entry-requires : tie.Need-entry-requires Inv-loop μ-loop
-entry-requires c κs = search needs
+word-requires : tie.Need-word-requires Inv-loop μ-loop
+word-requires c κs = search needs
 
 count-gate-requires : tie.Need-count-gate-requires Inv-loop μ-loop
 count-gate-requires c κs = search needs
@@ -79,8 +79,8 @@ loop-again c =
     let second = weighed .before .before in
     let first = second .before .before in
     let here = first .before .before .before in
-    step _ _ _ _ _ _ _ _ _ (weighed .entry .result) (first .read-wire .result) (second .read-wire2 .result) (counted .count-gate .result) _ _ _
-    (here .loop .inv) (search needs) (weighed .entry .ensures) (first .read-wire .ensures) (second .read-wire2 .ensures)
+    step _ _ _ _ _ _ _ _ _ (weighed .word .result) (first .read-wire .result) (second .read-wire2 .result) (counted .count-gate .result) _ _ _
+    (here .loop .inv) (search needs) (weighed .word .ensures) (first .read-wire .ensures) (second .read-wire2 .ensures)
     (counted .count-gate .ensures) (c .before .before .add .ensures) (c .before .add2 .ensures) (c .add3 .ensures)
 
 sub-requires : tie.Need-sub-requires Inv-loop μ-loop
@@ -111,7 +111,7 @@ by-gates-spec =
     read-wire-requires-2
     mul-count-gate
     shared-slice-read-count-gate
-    entry-requires
+    word-requires
     count-gate-requires
     add-requires
     add-requires-2

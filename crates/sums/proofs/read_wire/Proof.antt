@@ -32,14 +32,14 @@ add-up c =
     let wide = width-le (start .args .c .free) (fits .free) in
     search needs
 
-entry-requires : tie.Need-entry-requires
-entry-requires c κs = search needs
+word-requires : tie.Need-word-requires
+word-requires c κs = search needs
 
-entry-requires-2 : tie.Need-entry-requires-2
-entry-requires-2 c κs = search needs
+word-requires-2 : tie.Need-word-requires-2
+word-requires-2 c κs = search needs
 
-entry-requires-3 : tie.Need-entry-requires-3
-entry-requires-3 c κs = search needs
+word-requires-3 : tie.Need-word-requires-3
+word-requires-3 c κs = search needs
 
 returns : tie.Need-returns
 returns c =
@@ -51,9 +51,9 @@ returns c =
     ⊎-elim (λ w. w .1 ∙ turned-within (args .c) (start .pre) (args .wire) _ low (w .0 .taken))
     (λ w. w .2 ∙ turned-past (args .c) (start .pre) (args .wire) _ low (w .0 .left)) (joined .if1 .came) in
     record {
-      share = c .before .before .entry .ensures ∙ ap (λ (n : ℕ). getD (args .shares .now) n 0) (high-is (args .c) (start .pre) (args .wire));
-      own = c .before .entry2 .ensures ∙ ap (λ (n : ℕ). getD (args .table .now) n 0) low;
-      other = c .entry3 .ensures ∙ ap (λ (n : ℕ). getD (args .table .now) n 0) turned;
+      share = c .before .before .word .ensures ∙ ap (λ (n : ℕ). getD (args .shares .now) n 0) (high-is (args .c) (start .pre) (args .wire));
+      own = c .before .word2 .ensures ∙ ap (λ (n : ℕ). getD (args .table .now) n 0) low;
+      other = c .word3 .ensures ∙ ap (λ (n : ℕ). getD (args .table .now) n 0) turned;
       one = ap₂ ltb turned low;
     }
 
@@ -65,7 +65,7 @@ read-wire-spec =
     mul-low
     sub-low
     add-up
-    entry-requires
-    entry-requires-2
-    entry-requires-3
+    word-requires
+    word-requires-2
+    word-requires-3
     returns)

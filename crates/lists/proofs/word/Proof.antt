@@ -3,8 +3,8 @@
 use mathlib.Core.Path.{sym}
 use lib.ListN.{List·getD-eq-default}
 use borrow.Author.Needs.{needs}
-use Rattle.standing.proofs.word.Statement.{statement}
-use Rattle.standing.proofs.word.Tie as tie
+use Rattle.lists.proofs.word.Statement.{statement}
+use Rattle.lists.proofs.word.Tie as tie
 
 mul-result : tie.Need-mul-result
 mul-result c = search needs
