@@ -11,8 +11,12 @@ use Rattle.circuit.specs.Circuit.{depth, exponentAt}
 use Rattle.lists.specs.Buffer.{over}
 use Rattle.protocol.specs.Rounds.{place}
 use Rattle.protocol.specs.Prove.{messageFrom}
+use Rattle.circuit.specs.Sized.{LegalCircuit}
+use Rattle.evaluation.specs.Layer.{AllValues}
+use Rattle.protocol.specs.Judge.{messageLength}
+use Rattle.standing.specs.Standing.{AtRound}
 use Rattle.circuit.proofs.Loading.{legal-lists}
-use Rattle.prover.specs.Writing.{valuesIn}
+use Rattle.prover.specs.Writing.{valuesIn, Writable, Provable}
 use Rattle.prover.proofs.Rows.{message-size}
 use Rattle.prover.proofs.Values.{layer-values, writable, output-of}
 use Rattle.prover.proofs.Transcripts.{BeforeLayer, BeforeRound, all-start, layer-ends, all-end, lent, lent-size, lent-layer, given-back, coins-there, round-place, same-size, at-inside, lent-room, next-round}
@@ -34,39 +38,81 @@ Inv-loop circuit input coins messages₀ values n₀ at₀ layer₀ layer-end me
 abbrev μ-loop : tie.MeasureT-loop
 μ-loop circuit input coins messages₀ values n₀ at₀ layer₀ layer-end messages n at layer = layer-end - layer
 
+-- where the outer loop stands
+abbrev Layer : Type 0
+Layer = tie.At-loop Inv-loop2 μ-loop2 Inv-loop μ-loop
+
+abbrev start : Layer → tie.Start Inv-loop2 μ-loop2 Inv-loop μ-loop
+start o = o .before .before .before .before .before .before .before
+
+legal : (o : Layer) → LegalCircuit (start o .args .circuit .now)
+legal o = legal-lists (start o .args .circuit .now) (start o .args .input .now) (start o .pre .lists) .circuit
+
+held : (o : Layer) → AllValues (start o .args .circuit .now) (start o .args .input .now) (o .before .before .all-values .result)
+held o = o .before .before .all-values .ensures
+
+-- the inner loop starts from the buffer as it is then
+can : (o : Layer) → Provable (start o .args .circuit .now) (start o .args .input .now) (start o .args .coins .now) (o .loop .messages)
+can o = lent _ _ _ _ (start o .pre) _ _ _ _ (o .loop .inv .1)
+
+as-long : (o : Layer) → length (o .loop .messages) ≡ length (start o .args .messages .now)
+as-long o = lent-size _ _ _ _ (start o .pre) _ _ _ _ (o .loop .inv .1)
+
+-- a turn of the inner loop
+abbrev Turn : Type 0
+Turn = tie.In-loop2 Inv-loop2 μ-loop2 Inv-loop μ-loop
+
+abbrev layer : Turn → Layer
+layer t = t .before .before .before .before
+
+more : (t : Turn) → t .before .loop2 .round < 2 * exponentAt (start (layer t) .args .circuit .now) (layer t .loop .layer) + 1
+more t = subst (λ (i : ℕ). t .before .loop2 .round < i) (t .before .loop2 .inv .1) (t .loop2-test .taken)
+
+coin : (t : Turn) → t .before .loop2 .n < length (start (layer t) .args .coins .now)
+coin t = coins-there _ _ _ _ (can (layer t)) _ _ _ _ _ (t .before .loop2 .inv .3) (more t)
+
+spot : (t : Turn) → AtRound (start (layer t) .args .circuit .now) (layer t .loop .layer) (t .before .loop2 .round) (take (t .before .loop2 .n) (start (layer t) .args .coins .now))
+spot t = round-place _ _ _ _ (can (layer t)) _ _ _ _ _ (t .before .loop2 .inv .3) (more t)
+
+inside : (t : Turn) → t .before .loop2 .at + messageLength (start (layer t) .args .circuit .now) (place (layer t .loop .layer) (t .before .loop2 .round)) ≤ length (t .before .loop2 .messages)
+inside t = at-inside _ _ _ _ (can (layer t)) _ _ _ _ _ (t .before .loop2 .inv .3) (more t)
+
+-- the part that is lent on
+abbrev part : Turn → List ℕ
+part t = take (length (t .before .loop2 .messages) - t .before .loop2 .at) (drop (t .before .loop2 .at) (t .before .loop2 .messages))
+
+ready : (t : Turn) → Writable (start (layer t) .args .circuit .now) (layer t .loop .layer) (t .before .loop2 .round) (take (t .before .loop2 .n) (start (layer t) .args .coins .now)) (valuesIn (start (layer t) .args .circuit .now) (layer t .loop .layer) (layer t .before .before .all-values .result)) (part t)
+ready t = writable _ _ (start (layer t) .pre .lists) _ (held (layer t)) _ _ _ (part t) (spot t) (lent-room _ _ _ _ (can (layer t)) _ _ _ _ _ (t .before .loop2 .inv .3) (more t))
+
 all-values-requires : tie.Need-all-values-requires Inv-loop2 μ-loop2 Inv-loop μ-loop
 all-values-requires c κs = c .before .before .before .before .pre .lists
 
-shared-slice-read-layer-end :
-    tie.Need-shared-slice-read-layer-end Inv-loop2 μ-loop2 Inv-loop μ-loop
+shared-slice-read-layer-end : tie.Need-shared-slice-read-layer-end Inv-loop2 μ-loop2 Inv-loop μ-loop
 shared-slice-read-layer-end c =
-    let start = c .before .before .before .before .before .before in
-    let legal = legal-lists (start .args .circuit .now) (start .args .input .now) (start .pre .lists) .circuit in
-    let long = legal .sized .headed .long in
-    let flat = legal .sized .headed .shallow in
+    let begin = c .before .before .before .before .before .before in
+    let headed = legal-lists (begin .args .circuit .now) (begin .args .input .now) (begin .pre .lists) .circuit .sized .headed in
+    let long = headed .long in
+    let flat = headed .shallow in
     omega arith
 
 cast-layer-end : tie.Need-cast-layer-end Inv-loop2 μ-loop2 Inv-loop μ-loop
 cast-layer-end c =
-    let start = c .before .before .before .before .before .before in
-    let legal = legal-lists (start .args .circuit .now) (start .args .input .now) (start .pre .lists) .circuit in
-    let long = legal .sized .headed .long in
-    let flat = legal .sized .headed .shallow in
+    let begin = c .before .before .before .before .before .before in
+    let headed = legal-lists (begin .args .circuit .now) (begin .args .input .now) (begin .pre .lists) .circuit .sized .headed in
+    let long = headed .long in
+    let flat = headed .shallow in
     omega arith
 
 add-layer-end : tie.Need-add-layer-end Inv-loop2 μ-loop2 Inv-loop μ-loop
 add-layer-end c =
-    let start = c .before .before .before .before .before .before in
-    let legal = legal-lists (start .args .circuit .now) (start .args .input .now) (start .pre .lists) .circuit in
-    let long = legal .sized .headed .long in
-    let flat = legal .sized .headed .shallow in
+    let begin = c .before .before .before .before .before .before in
+    let headed = legal-lists (begin .args .circuit .now) (begin .args .input .now) (begin .pre .lists) .circuit .sized .headed in
+    let long = headed .long in
+    let flat = headed .shallow in
     omega arith
 
 loop-holds : tie.Need-loop-holds Inv-loop2 μ-loop2 Inv-loop μ-loop
-loop-holds c =
-    let start = c .before .before .before .before .before .before in
-    let a = start .args in
-    (refl, all-start (a .circuit .now) (a .input .now) (a .coins .now) (a .messages .now) (start .pre))
+loop-holds c = (refl, all-start _ _ _ _ (c .before .before .before .before .before .before .pre))
 
 exponent-requires : tie.Need-exponent-requires Inv-loop2 μ-loop2 Inv-loop μ-loop
 exponent-requires c κs = search needs
@@ -82,156 +128,49 @@ add-round-end c = search needs
 
 loop2-holds : tie.Need-loop2-holds Inv-loop2 μ-loop2 Inv-loop μ-loop
 loop2-holds c =
-    let out = c .before .before in
-    let start = out .before .before .before .before .before .before .before in
-    let a = start .args in
-    let l = a .circuit .now in
-    let v = a .input .now in
-    let cs = a .coins .now in
-    let values = out .before .before .all-values in (
-      out .loop .inv .0,
+    let o = c .before .before in (
+      o .loop .inv .0,
       ap (λ (k : ℕ). 2 * k + 1) (c .exponent .ensures),
       search needs,
-      lent-layer l v cs (a .messages .now) (start .pre) (out .loop .layer) (out .loop .n) (out .loop .at) (out .loop .messages) (out .loop .inv .1) (omega (arith, c .before .loop-test .taken, out .loop .inv .0)),
+      lent-layer _ _ _ _ (start o .pre) _ _ _ _ (o .loop .inv .1) (omega (arith, c .before .loop-test .taken, o .loop .inv .0)),
     )
 
-slice-aggregate-write-message :
-    tie.Need-slice-aggregate-write-message Inv-loop2 μ-loop2 Inv-loop μ-loop
-slice-aggregate-write-message c =
-    let at = c .before .before in
-    let out = c .before .before .before .before .before in
-    let start = out .before .before .before .before .before .before .before in
-    let a = start .args in
-    let l = a .circuit .now in
-    let v = a .input .now in
-    let cs = a .coins .now in
-    let values = out .before .before .all-values in
-    let now = out .loop .messages in
-    let h = lent l v cs (a .messages .now) (start .pre) (out .loop .layer) (out .loop .n) (out .loop .at) now (out .loop .inv .1) in
-    let more = subst (λ (i : ℕ). at .loop2 .round < i) (at .loop2 .inv .1) (c .before .loop2-test .taken) in
-    let there = coins-there l v cs now h (out .loop .layer) (at .loop2 .round) (at .loop2 .n) (at .loop2 .at) (at .loop2 .messages) (at .loop2 .inv .3) more in
-    sym (length-take-le _ _ (omega arith))
+slice-aggregate-write-message : tie.Need-slice-aggregate-write-message Inv-loop2 μ-loop2 Inv-loop μ-loop
+slice-aggregate-write-message c = let there = coin (c .before) in sym (length-take-le _ _ (omega arith))
 
-slice-aggregate-write-message-2 :
-    tie.Need-slice-aggregate-write-message-2 Inv-loop2 μ-loop2 Inv-loop μ-loop
+slice-aggregate-write-message-2 : tie.Need-slice-aggregate-write-message-2 Inv-loop2 μ-loop2 Inv-loop μ-loop
 slice-aggregate-write-message-2 c = search needs
 
 mul-write-message : tie.Need-mul-write-message Inv-loop2 μ-loop2 Inv-loop μ-loop
-mul-write-message c =
-    let at = c .before .before .before in
-    let out = c .before .before .before .before .before .before in
-    let start = out .before .before .before .before .before .before .before in
-    let a = start .args in
-    let l = a .circuit .now in
-    let v = a .input .now in
-    let cs = a .coins .now in
-    let values = out .before .before .all-values in
-    let now = out .loop .messages in
-    let h = lent l v cs (a .messages .now) (start .pre) (out .loop .layer) (out .loop .n) (out .loop .at) now (out .loop .inv .1) in
-    let more = subst (λ (i : ℕ). at .loop2 .round < i) (at .loop2 .inv .1) (c .before .before .loop2-test .taken) in
-    let inside = at-inside l v cs now h (out .loop .layer) (at .loop2 .round) (at .loop2 .n) (at .loop2 .at) (at .loop2 .messages) (at .loop2 .inv .3) more in
-    search needs
+mul-write-message c = let fits = inside (c .before .before) in search needs
 
 sub-write-message : tie.Need-sub-write-message Inv-loop2 μ-loop2 Inv-loop μ-loop
-sub-write-message c =
-    let at = c .before .before .before in
-    let out = c .before .before .before .before .before .before in
-    let start = out .before .before .before .before .before .before .before in
-    let a = start .args in
-    let l = a .circuit .now in
-    let v = a .input .now in
-    let cs = a .coins .now in
-    let values = out .before .before .all-values in
-    let now = out .loop .messages in
-    let h = lent l v cs (a .messages .now) (start .pre) (out .loop .layer) (out .loop .n) (out .loop .at) now (out .loop .inv .1) in
-    let more = subst (λ (i : ℕ). at .loop2 .round < i) (at .loop2 .inv .1) (c .before .before .loop2-test .taken) in
-    let inside = at-inside l v cs now h (out .loop .layer) (at .loop2 .round) (at .loop2 .n) (at .loop2 .at) (at .loop2 .messages) (at .loop2 .inv .3) more in
-    search needs
+sub-write-message c = let fits = inside (c .before .before) in search needs
 
 part-write-message-start : tie.Need-part-write-message-start Inv-loop2 μ-loop2 Inv-loop μ-loop
-part-write-message-start c =
-    let at = c .before .before .before in
-    let out = c .before .before .before .before .before .before in
-    let start = out .before .before .before .before .before .before .before in
-    let a = start .args in
-    let l = a .circuit .now in
-    let v = a .input .now in
-    let cs = a .coins .now in
-    let values = out .before .before .all-values in
-    let now = out .loop .messages in
-    let h = lent l v cs (a .messages .now) (start .pre) (out .loop .layer) (out .loop .n) (out .loop .at) now (out .loop .inv .1) in
-    let more = subst (λ (i : ℕ). at .loop2 .round < i) (at .loop2 .inv .1) (c .before .before .loop2-test .taken) in
-    let inside = at-inside l v cs now h (out .loop .layer) (at .loop2 .round) (at .loop2 .n) (at .loop2 .at) (at .loop2 .messages) (at .loop2 .inv .3) more in
-    search needs
+part-write-message-start c = let fits = inside (c .before .before) in search needs
 
 part-write-message-end : tie.Need-part-write-message-end Inv-loop2 μ-loop2 Inv-loop μ-loop
-part-write-message-end c =
-    let at = c .before .before .before in
-    let out = c .before .before .before .before .before .before in
-    let start = out .before .before .before .before .before .before .before in
-    let a = start .args in
-    let l = a .circuit .now in
-    let v = a .input .now in
-    let cs = a .coins .now in
-    let values = out .before .before .all-values in
-    let now = out .loop .messages in
-    let h = lent l v cs (a .messages .now) (start .pre) (out .loop .layer) (out .loop .n) (out .loop .at) now (out .loop .inv .1) in
-    let more = subst (λ (i : ℕ). at .loop2 .round < i) (at .loop2 .inv .1) (c .before .before .loop2-test .taken) in
-    let inside = at-inside l v cs now h (out .loop .layer) (at .loop2 .round) (at .loop2 .n) (at .loop2 .at) (at .loop2 .messages) (at .loop2 .inv .3) more in
-    search needs
+part-write-message-end c = let fits = inside (c .before .before) in search needs
 
 write-message-requires : tie.Need-write-message-requires Inv-loop2 μ-loop2 Inv-loop μ-loop
-write-message-requires c κs =
-    let at = c .before .before .before .before in
-    let out = c .before .before .before .before .before .before .before in
-    let start = out .before .before .before .before .before .before .before in
-    let a = start .args in
-    let l = a .circuit .now in
-    let v = a .input .now in
-    let cs = a .coins .now in
-    let values = out .before .before .all-values in
-    let now = out .loop .messages in
-    let h = lent l v cs (a .messages .now) (start .pre) (out .loop .layer) (out .loop .n) (out .loop .at) now (out .loop .inv .1) in
-    let more = subst (λ (i : ℕ). at .loop2 .round < i) (at .loop2 .inv .1) (c .before .before .before .loop2-test .taken) in
-    writable l v (start .pre .lists) (values .result) (values .ensures) (out .loop .layer) (at .loop2 .round) _ _ (round-place l v cs now h (out .loop .layer) (at .loop2 .round) (at .loop2 .n) (at .loop2 .at) (at .loop2 .messages) (at .loop2 .inv .3) more) (lent-room l v cs now h (out .loop .layer) (at .loop2 .round) (at .loop2 .n) (at .loop2 .at) (at .loop2 .messages) (at .loop2 .inv .3) more)
+write-message-requires c κs = ready (c .before .before .before)
 
 message-length-requires : tie.Need-message-length-requires Inv-loop2 μ-loop2 Inv-loop μ-loop
 message-length-requires c κs = search needs
 
 add-at : tie.Need-add-at Inv-loop2 μ-loop2 Inv-loop μ-loop
 add-at c =
-    let at = c .before .before .before .before .before .before .before .before in
-    let out = c .before .before .before .before .before .before .before .before .before .before .before in
-    let start = out .before .before .before .before .before .before .before in
-    let a = start .args in
-    let l = a .circuit .now in
-    let v = a .input .now in
-    let cs = a .coins .now in
-    let values = out .before .before .all-values in
-    let now = out .loop .messages in
-    let h = lent l v cs (a .messages .now) (start .pre) (out .loop .layer) (out .loop .n) (out .loop .at) now (out .loop .inv .1) in
-    let more = subst (λ (i : ℕ). at .loop2 .round < i) (at .loop2 .inv .1) (c .before .before .before .before .before .before .before .loop2-test .taken) in
-    let inside = at-inside l v cs now h (out .loop .layer) (at .loop2 .round) (at .loop2 .n) (at .loop2 .at) (at .loop2 .messages) (at .loop2 .inv .3) more in
-    let one = same-size l v cs now h (out .loop .layer) (at .loop2 .round) (at .loop2 .n) (at .loop2 .at) (at .loop2 .messages) (at .loop2 .inv .3) more in
-    let two = lent-size l v cs (a .messages .now) (start .pre) (out .loop .layer) (out .loop .n) (out .loop .at) now (out .loop .inv .1) in
-    let fits : at .loop2 .at + c .message-length .result ≤ length (a .messages .now) = omega (arith, inside, one, two, c .message-length .ensures) in
+    let t = c .before .before .before .before .before .before .before in
+    let room = inside t in
+    let one = same-size _ _ _ _ (can (layer t)) _ _ _ _ _ (t .before .loop2 .inv .3) (more t) in
+    let two = as-long (layer t) in
+    let known = layer t .before .before .before in
+    let fits : t .before .loop2 .at + c .message-length .result ≤ length (start (layer t) .args .messages .now) = omega (arith, room, one, two, c .message-length .ensures) in
     search needs
 
 add-n : tie.Need-add-n Inv-loop2 μ-loop2 Inv-loop μ-loop
-add-n c =
-    let at = c .before .before .before .before .before .before .before .before in
-    let out = c .before .before .before .before .before .before .before .before .before .before .before in
-    let start = out .before .before .before .before .before .before .before in
-    let a = start .args in
-    let l = a .circuit .now in
-    let v = a .input .now in
-    let cs = a .coins .now in
-    let values = out .before .before .all-values in
-    let now = out .loop .messages in
-    let h = lent l v cs (a .messages .now) (start .pre) (out .loop .layer) (out .loop .n) (out .loop .at) now (out .loop .inv .1) in
-    let more = subst (λ (i : ℕ). at .loop2 .round < i) (at .loop2 .inv .1) (c .before .before .before .before .before .before .before .loop2-test .taken) in
-    let there = coins-there l v cs now h (out .loop .layer) (at .loop2 .round) (at .loop2 .n) (at .loop2 .at) (at .loop2 .messages) (at .loop2 .inv .3) more in
-    search needs
+add-n c = let there = coin (c .before .before .before .before .before .before .before) in search needs
 
 add-round : tie.Need-add-round Inv-loop2 μ-loop2 Inv-loop μ-loop
 add-round c = search needs
@@ -241,118 +180,51 @@ loop2-less c = search needs
 
 loop2-again : tie.Need-loop2-again Inv-loop2 μ-loop2 Inv-loop μ-loop
 loop2-again c =
-    let at = c .before .before .before .before .before .before .before .before in
-    let out = c .before .before .before .before .before .before .before .before .before .before .before in
-    let start = out .before .before .before .before .before .before .before in
-    let a = start .args in
-    let l = a .circuit .now in
-    let v = a .input .now in
-    let cs = a .coins .now in
-    let values = out .before .before .all-values in
-    let now = out .loop .messages in
-    let h = lent l v cs (a .messages .now) (start .pre) (out .loop .layer) (out .loop .n) (out .loop .at) now (out .loop .inv .1) in
-    let more = subst (λ (i : ℕ). at .loop2 .round < i) (at .loop2 .inv .1) (c .before .before .before .before .before .before .before .loop2-test .taken) in
-    let wide = c .message-length in
-    let past = take (at .loop2 .n) cs in
-    let part = take (length (at .loop2 .messages) - at .loop2 .at) (drop (at .loop2 .at) (at .loop2 .messages)) in
-    let spot = round-place l v cs now h (out .loop .layer) (at .loop2 .round) (at .loop2 .n) (at .loop2 .at) (at .loop2 .messages) (at .loop2 .inv .3) more in
-    let can = writable l v (start .pre .lists) (values .result) (values .ensures) (out .loop .layer) (at .loop2 .round) past part spot (lent-room l v cs now h (out .loop .layer) (at .loop2 .round) (at .loop2 .n) (at .loop2 .at) (at .loop2 .messages) (at .loop2 .inv .3) more) in
-    let same = layer-values l v (start .pre .lists) (values .result) (values .ensures) (out .loop .layer) (spot .last) in
-    let said : List ℕ → List ℕ = λ (vs : List ℕ). messageFrom l vs (place (out .loop .layer) (at .loop2 .round)) past in (
+    let t = c .before .before .before .before .before .before .before in
+    let at = t .before in
+    let o = layer t in
+    let same = layer-values _ _ (start o .pre .lists) _ (held o) (o .loop .layer) (spot t .last) in
+    let said : List ℕ → List ℕ = λ (vs : List ℕ). messageFrom (start o .args .circuit .now) vs (place (o .loop .layer) (at .loop2 .round)) (take (at .loop2 .n) (start o .args .coins .now)) in (
       at .loop2 .inv .0,
       at .loop2 .inv .1,
       omega (arith, at .loop2 .inv .2),
-      next-round l v cs now h (out .loop .layer) (at .loop2 .round) (at .loop2 .n) (at .loop2 .at) (at .loop2 .messages) (at .loop2 .inv .3) more (wide .result) (wide .ensures)
-          (ap (λ (vs : List ℕ). length (said vs)) (sym same) ∙ message-size l (out .loop .layer) (at .loop2 .round) past (valuesIn l (out .loop .layer) (values .result)) part can)
-          _ (c .before .before .before .write-message .ensures ∙ ap (λ (vs : List ℕ). over (said vs) part) same),
+      next-round _ _ _ _ (can o) _ _ _ _ _ (at .loop2 .inv .3) (more t) (c .message-length .result) (c .message-length .ensures)
+          (ap (λ (vs : List ℕ). length (said vs)) (sym same) ∙ message-size _ _ _ _ _ (part t) (ready t))
+          _ (c .before .before .before .write-message .ensures ∙ ap (λ (vs : List ℕ). over (said vs) (part t)) same),
     )
 
 add-layer : tie.Need-add-layer Inv-loop2 μ-loop2 Inv-loop μ-loop
 add-layer c =
-    let at = c .before in
-    let out = c .before .before .before .before in
-    let start = out .before .before .before .before .before .before .before in
-    let a = start .args in
-    let l = a .circuit .now in
-    let v = a .input .now in
-    let cs = a .coins .now in
-    let values = out .before .before .all-values in
-    let now = out .loop .messages in
-    let h = lent l v cs (a .messages .now) (start .pre) (out .loop .layer) (out .loop .n) (out .loop .at) now (out .loop .inv .1) in
-    let last = at .loop2 .inv .3 .reached .last in
-    let flat = legal-lists l v (start .pre .lists) .circuit .sized .headed .shallow in
+    let last = c .before .loop2 .inv .3 .reached .last in
+    let flat = legal (c .before .before .before .before) .sized .headed .shallow in
     omega arith
 
 loop-less : tie.Need-loop-less Inv-loop2 μ-loop2 Inv-loop μ-loop
 loop-less c =
-    let at = c .before in
-    let out = c .before .before .before .before in
-    let start = out .before .before .before .before .before .before .before in
-    let a = start .args in
-    let l = a .circuit .now in
-    let v = a .input .now in
-    let cs = a .coins .now in
-    let values = out .before .before .all-values in
-    let now = out .loop .messages in
-    let h = lent l v cs (a .messages .now) (start .pre) (out .loop .layer) (out .loop .n) (out .loop .at) now (out .loop .inv .1) in
-    let last = at .loop2 .inv .3 .reached .last in
-    let end = at .loop2 .inv .0 in
+    let last = c .before .loop2 .inv .3 .reached .last in
+    let end = c .before .loop2 .inv .0 in
     omega arith
 
 loop-again : tie.Need-loop-again Inv-loop2 μ-loop2 Inv-loop μ-loop
 loop-again c =
     let at = c .before in
-    let out = c .before .before .before .before in
-    let start = out .before .before .before .before .before .before .before in
-    let a = start .args in
-    let l = a .circuit .now in
-    let v = a .input .now in
-    let cs = a .coins .now in
-    let values = out .before .before .all-values in
-    let now = out .loop .messages in
-    let h = lent l v cs (a .messages .now) (start .pre) (out .loop .layer) (out .loop .n) (out .loop .at) now (out .loop .inv .1) in (
+    let o = c .before .before .before .before in (
       at .loop2 .inv .0,
-      layer-ends l v cs (a .messages .now) (start .pre) (out .loop .layer) (at .loop2 .round) (at .loop2 .n) (at .loop2 .at) (at .loop2 .messages)
-          (given-back l v cs (a .messages .now) (start .pre) (out .loop .layer) (out .loop .n) (out .loop .at) now (out .loop .inv .1) (at .loop2 .round) (at .loop2 .n) (at .loop2 .at) (at .loop2 .messages) (at .loop2 .inv .2) (at .loop2 .inv .3))
+      layer-ends _ _ _ _ (start o .pre) _ _ _ _ _ (given-back _ _ _ _ (start o .pre) _ _ _ _ (o .loop .inv .1) _ _ _ _ (at .loop2 .inv .2) (at .loop2 .inv .3))
           (subst (λ (i : ℕ). i ≤ at .loop2 .round) (at .loop2 .inv .1) (c .loop2-test .left)),
     )
 
 array-read-t13 : tie.Need-array-read-t13 Inv-loop2 μ-loop2 Inv-loop μ-loop
-array-read-t13 c =
-    let out = c .before in
-    let start = out .before .before .before .before .before .before .before in
-    let a = start .args in
-    let l = a .circuit .now in
-    let v = a .input .now in
-    let cs = a .coins .now in
-    let values = out .before .before .all-values in
-    let size = values .ensures .size in
-    search needs
+array-read-t13 c = let size = held (c .before) .size in search needs
 
 same-length : tie.Need-same-length Inv-loop2 μ-loop2 Inv-loop μ-loop
-same-length c =
-    let out = c .before in
-    let start = out .before .before .before .before .before .before .before in
-    let a = start .args in
-    let l = a .circuit .now in
-    let v = a .input .now in
-    let cs = a .coins .now in
-    let values = out .before .before .all-values in
-    let now = out .loop .messages in
-    let size = lent-size l v cs (a .messages .now) (start .pre) (out .loop .layer) (out .loop .n) (out .loop .at) now (out .loop .inv .1) in
-    search needs
+same-length c = let size = as-long (c .before) in search needs
 
 returns : tie.Need-returns Inv-loop2 μ-loop2 Inv-loop μ-loop
 returns c =
-    let out = c .before in
-    let start = out .before .before .before .before .before .before .before in
-    let a = start .args in
-    let l = a .circuit .now in
-    let v = a .input .now in
-    let cs = a .coins .now in
-    let values = out .before .before .all-values in
-    let done = all-end l v cs (a .messages .now) (start .pre) (out .loop .layer) (out .loop .n) (out .loop .at) (out .loop .messages) (out .loop .inv .1) (omega (arith, c .loop-test .left, out .loop .inv .0)) in
-    record { output = output-of l v (start .pre .lists) (values .result) (values .ensures); words = done .0; buffer = done .1 }
+    let o = c .before in
+    let done = all-end _ _ _ _ (start o .pre) _ _ _ _ (o .loop .inv .1) (omega (arith, c .loop-test .left, o .loop .inv .0)) in
+    record { output = output-of _ _ (start o .pre .lists) _ (held o); words = done .0; buffer = done .1 }
 
 pub write-all-spec : {M : Type 1} → statement M
 write-all-spec =

@@ -3,14 +3,17 @@
 use Prim.Native.Nat.{ℕ, _+_, _-_, _*_, _≤_, _<_}
 use mathlib.Core.Path.{_≡_, sym, ap, _∙_, subst}
 use native.Mathlib.Omega.{arith}
-use lib.ListN.{take, drop, getD}
+use lib.ListN.{length, take, drop, getD}
 use lib.Seq.{length-take-le}
 use borrow.Author.Needs.{needs}
-use Rattle.algebra.specs.Numbers.{words}
+use Rattle.algebra.specs.Numbers.{words as words-of}
 use Rattle.algebra.specs.Polynomial.{valueAt}
 use Rattle.refusal.specs.Number.{causeOf}
 use Rattle.circuit.specs.Circuit.{exponentAt}
 use Rattle.circuit.specs.Circuit.{depth as depthOf}
+use Rattle.circuit.specs.Sized.{LegalCircuit}
+use Rattle.protocol.specs.Rounds.{place}
+use Rattle.protocol.specs.Judge.{messageLength}
 use Rattle.circuit.proofs.Layers.{prime-modulus}
 use Rattle.circuit.proofs.Loading.{legal-lists}
 use Rattle.verifier.proofs.Walking.{BeforeLayer, BeforeRound, walk-starts, layer-starts, layer-ends, walk-ends, coin-there, words-there, round-place, round-passes, round-refuses}
@@ -31,35 +34,53 @@ Inv-walk circuit input output coins messages f depth claim₀ layer₀ n₀ at�
 abbrev μ-walk : tie.MeasureT-walk
 μ-walk circuit input output coins messages f depth claim₀ layer₀ n₀ at₀ claim layer n at = 1 + depthOf circuit - layer
 
+-- the start's circuit has its words
+abbrev Start : Type 0
+Start = tie.Start Inv-loop μ-loop Inv-walk μ-walk
+
+legal : (s : Start) → LegalCircuit (s .args .circuit .now)
+legal s = legal-lists (s .args .circuit .now) (s .args .input .now) (s .pre .coins .lists) .circuit
+
+-- where the outer loop stands
+abbrev Layer : Type 0
+Layer = tie.At-walk Inv-loop μ-loop Inv-walk μ-walk
+
+abbrev start : Layer → Start
+start o = o .before .before .before .before .before .before .before .before
+
+-- a turn of the inner loop
+abbrev Turn : Type 0
+Turn = tie.In-loop Inv-loop μ-loop Inv-walk μ-walk
+
+abbrev layer : Turn → Layer
+layer t = t .before .before .before .before
+
+more : (t : Turn) → t .before .loop .round < 2 * exponentAt (start (layer t) .args .circuit .now) (layer t .walk .layer) + 1
+more t = subst (λ (i : ℕ). t .before .loop .round < i) (t .before .loop .inv .0) (t .loop-test .taken)
+
+coin : (t : Turn) → t .before .loop .n < length (start (layer t) .args .coins .now)
+coin t = coin-there _ _ _ _ _ (start (layer t) .pre) _ _ _ _ _ (t .before .loop .inv .1) (more t)
+
+words : (t : Turn) → t .before .loop .at + messageLength (start (layer t) .args .circuit .now) (place (layer t .walk .layer) (t .before .loop .round)) ≤ length (start (layer t) .args .messages .now)
+words t = words-there _ _ _ _ _ (start (layer t) .pre) _ _ _ _ _ (t .before .loop .inv .1) (more t)
+
 shared-slice-read-of : tie.Need-shared-slice-read-of Inv-loop μ-loop Inv-walk μ-walk
-shared-slice-read-of c =
-    let start = c .before .before .before .before .before in
-    let long = legal-lists (start .args .circuit .now) (start .args .input .now) (start .pre .coins .lists) .circuit .sized .headed .long in
-    omega arith
+shared-slice-read-of c = let long = legal (c .before .before .before .before .before) .sized .headed .long in omega arith
 
 of-requires : tie.Need-of-requires Inv-loop μ-loop Inv-walk μ-walk
 of-requires c κs = search needs
 
 shared-slice-read-depth : tie.Need-shared-slice-read-depth Inv-loop μ-loop Inv-walk μ-walk
-shared-slice-read-depth c =
-    let start = c .before .before .before .before .before .before .before in
-    let long = legal-lists (start .args .circuit .now) (start .args .input .now) (start .pre .coins .lists) .circuit .sized .headed .long in
-    omega arith
+shared-slice-read-depth c = let long = legal (c .before .before .before .before .before .before .before) .sized .headed .long in omega arith
 
 cast-depth : tie.Need-cast-depth Inv-loop μ-loop Inv-walk μ-walk
-cast-depth c =
-    let start = c .before .before .before .before .before .before .before in
-    let long = legal-lists (start .args .circuit .now) (start .args .input .now) (start .pre .coins .lists) .circuit .sized .headed .long in
-    omega (arith, c .shared-slice-known6 .given 1)
+cast-depth c = let long = legal (c .before .before .before .before .before .before .before) .sized .headed .long in omega (arith, c .shared-slice-known6 .given 1)
 
 walk-holds : tie.Need-walk-holds Inv-loop μ-loop Inv-walk μ-walk
-walk-holds c =
-    let start = c .before .before .before .before .before .before .before in
-    let a = start .args in
-    walk-starts (a .circuit .now) (a .input .now) (a .output) (a .messages .now) (a .coins .now) (start .pre)
+walk-holds c = walk-starts _ _ _ _ _ (c .before .before .before .before .before .before .before .pre)
 
 finish-requires : tie.Need-finish-requires Inv-loop μ-loop Inv-walk μ-walk
-finish-requires c κs = let start = c .before .before .before .before .before .before .before .before .before in start .pre .coins
+finish-requires c κs = start (c .before) .pre .coins
 
 exponent-requires : tie.Need-exponent-requires Inv-loop μ-loop Inv-walk μ-walk
 exponent-requires c κs = search needs
@@ -75,119 +96,52 @@ add-round-end c = search needs
 
 loop-holds : tie.Need-loop-holds Inv-loop μ-loop Inv-walk μ-walk
 loop-holds c =
-    let over = c .before .before in
-    let start = over .before .before .before .before .before .before .before .before in
-    let a = start .args in
-    let l = a .circuit .now in
-    let v = a .input .now in
-    let ms = a .messages .now in
-    let cs = a .coins .now in
-    (ap (λ (k : ℕ). 2 * k + 1) (c .exponent .ensures), layer-starts l v (a .output) ms cs (start .pre) (over .walk .layer) (over .walk .n) (over .walk .at) (over .walk .claim) (over .walk .inv) (c .before .if1 .left))
+    let o = c .before .before in
+    (ap (λ (k : ℕ). 2 * k + 1) (c .exponent .ensures), layer-starts _ _ _ _ _ (start o .pre) _ _ _ _ (o .walk .inv) (c .before .if1 .left))
 
 message-length-requires : tie.Need-message-length-requires Inv-loop μ-loop Inv-walk μ-walk
 message-length-requires c κs = search needs
 
 add-end : tie.Need-add-end Inv-loop μ-loop Inv-walk μ-walk
 add-end c =
-    let at = c .before .before in
-    let over = at .before .before .before in
-    let start = over .before .before .before .before .before .before .before .before in
-    let a = start .args in
-    let l = a .circuit .now in
-    let v = a .input .now in
-    let ms = a .messages .now in
-    let cs = a .coins .now in
-    let more = subst (λ (i : ℕ). at .loop .round < i) (at .loop .inv .0) (c .before .loop-test .taken) in
-    let room = words-there l v (a .output) ms cs (start .pre) (over .walk .layer) (at .loop .round) (at .loop .n) (at .loop .at) (at .loop .claim) (at .loop .inv .1) more in
+    let room = words (c .before) in
     let wide = c .message-length .ensures in
+    let known = layer (c .before) .before in
     search needs
 
 mul-message : tie.Need-mul-message Inv-loop μ-loop Inv-walk μ-walk
 mul-message c =
-    let at = c .before .before in
-    let over = at .before .before .before in
-    let start = over .before .before .before .before .before .before .before .before in
-    let a = start .args in
-    let l = a .circuit .now in
-    let v = a .input .now in
-    let ms = a .messages .now in
-    let cs = a .coins .now in
-    let more = subst (λ (i : ℕ). at .loop .round < i) (at .loop .inv .0) (c .before .loop-test .taken) in
-    let room = words-there l v (a .output) ms cs (start .pre) (over .walk .layer) (at .loop .round) (at .loop .n) (at .loop .at) (at .loop .claim) (at .loop .inv .1) more in
+    let room = words (c .before) in
     let wide = c .message-length .ensures in
+    let known = layer (c .before) .before in
     search needs
 
 sub-message : tie.Need-sub-message Inv-loop μ-loop Inv-walk μ-walk
 sub-message c =
-    let at = c .before .before in
-    let over = at .before .before .before in
-    let start = over .before .before .before .before .before .before .before .before in
-    let a = start .args in
-    let l = a .circuit .now in
-    let v = a .input .now in
-    let ms = a .messages .now in
-    let cs = a .coins .now in
-    let more = subst (λ (i : ℕ). at .loop .round < i) (at .loop .inv .0) (c .before .loop-test .taken) in
-    let room = words-there l v (a .output) ms cs (start .pre) (over .walk .layer) (at .loop .round) (at .loop .n) (at .loop .at) (at .loop .claim) (at .loop .inv .1) more in
+    let room = words (c .before) in
     let wide = c .message-length .ensures in
+    let known = layer (c .before) .before in
     search needs
 
 part-message-start : tie.Need-part-message-start Inv-loop μ-loop Inv-walk μ-walk
 part-message-start c =
-    let at = c .before .before in
-    let over = at .before .before .before in
-    let start = over .before .before .before .before .before .before .before .before in
-    let a = start .args in
-    let l = a .circuit .now in
-    let v = a .input .now in
-    let ms = a .messages .now in
-    let cs = a .coins .now in
-    let more = subst (λ (i : ℕ). at .loop .round < i) (at .loop .inv .0) (c .before .loop-test .taken) in
-    let room = words-there l v (a .output) ms cs (start .pre) (over .walk .layer) (at .loop .round) (at .loop .n) (at .loop .at) (at .loop .claim) (at .loop .inv .1) more in
+    let room = words (c .before) in
     let wide = c .message-length .ensures in
+    let known = layer (c .before) .before in
     search needs
 
 part-message-end : tie.Need-part-message-end Inv-loop μ-loop Inv-walk μ-walk
 part-message-end c =
-    let at = c .before .before in
-    let over = at .before .before .before in
-    let start = over .before .before .before .before .before .before .before .before in
-    let a = start .args in
-    let l = a .circuit .now in
-    let v = a .input .now in
-    let ms = a .messages .now in
-    let cs = a .coins .now in
-    let more = subst (λ (i : ℕ). at .loop .round < i) (at .loop .inv .0) (c .before .loop-test .taken) in
-    let room = words-there l v (a .output) ms cs (start .pre) (over .walk .layer) (at .loop .round) (at .loop .n) (at .loop .at) (at .loop .claim) (at .loop .inv .1) more in
+    let room = words (c .before) in
     let wide = c .message-length .ensures in
+    let known = layer (c .before) .before in
     search needs
 
 slice-aggregate-judge : tie.Need-slice-aggregate-judge Inv-loop μ-loop Inv-walk μ-walk
-slice-aggregate-judge c =
-    let at = c .before .before .before .before in
-    let over = at .before .before .before in
-    let start = over .before .before .before .before .before .before .before .before in
-    let a = start .args in
-    let l = a .circuit .now in
-    let v = a .input .now in
-    let ms = a .messages .now in
-    let cs = a .coins .now in
-    let more = subst (λ (i : ℕ). at .loop .round < i) (at .loop .inv .0) (c .before .before .before .loop-test .taken) in
-    let there = coin-there l v (a .output) ms cs (start .pre) (over .walk .layer) (at .loop .round) (at .loop .n) (at .loop .at) (at .loop .claim) (at .loop .inv .1) more in
-    sym (length-take-le _ _ (omega arith))
+slice-aggregate-judge c = let there = coin (c .before .before .before) in sym (length-take-le _ _ (omega arith))
 
 judge-requires : tie.Need-judge-requires Inv-loop μ-loop Inv-walk μ-walk
-judge-requires c κs =
-    let at = c .before .before .before .before in
-    let over = at .before .before .before in
-    let start = over .before .before .before .before .before .before .before .before in
-    let a = start .args in
-    let l = a .circuit .now in
-    let v = a .input .now in
-    let ms = a .messages .now in
-    let cs = a .coins .now in
-    let more = subst (λ (i : ℕ). at .loop .round < i) (at .loop .inv .0) (c .before .before .before .loop-test .taken) in
-    round-place l v (a .output) ms cs (start .pre) (over .walk .layer) (at .loop .round) (at .loop .n) (at .loop .at) (at .loop .claim) (at .loop .inv .1) more
+judge-requires c κs = let t = c .before .before .before in round-place _ _ _ _ _ (start (layer t) .pre) _ _ _ _ _ (t .before .loop .inv .1) (more t)
 
 enum-known-judged : tie.Need-enum-known-judged Inv-loop μ-loop Inv-walk μ-walk
 enum-known-judged c = search needs
@@ -199,34 +153,15 @@ mul-value-at : tie.Need-mul-value-at Inv-loop μ-loop Inv-walk μ-walk
 mul-value-at c = search needs
 
 shared-slice-read-value-at : tie.Need-shared-slice-read-value-at Inv-loop μ-loop Inv-walk μ-walk
-shared-slice-read-value-at c =
-    let at = c .before .before .before .before .before .before .before .before in
-    let over = at .before .before .before in
-    let start = over .before .before .before .before .before .before .before .before in
-    let a = start .args in
-    let l = a .circuit .now in
-    let v = a .input .now in
-    let ms = a .messages .now in
-    let cs = a .coins .now in
-    let more = subst (λ (i : ℕ). at .loop .round < i) (at .loop .inv .0) (c .before .before .before .before .before .before .before .loop-test .taken) in
-    let there = coin-there l v (a .output) ms cs (start .pre) (over .walk .layer) (at .loop .round) (at .loop .n) (at .loop .at) (at .loop .claim) (at .loop .inv .1) more in
-    search needs
+shared-slice-read-value-at c = let there = coin (c .before .before .before .before .before .before .before) in search needs
 
 value-at-requires : tie.Need-value-at-requires Inv-loop μ-loop Inv-walk μ-walk
 value-at-requires c κs = search needs
 
 add-n : tie.Need-add-n Inv-loop μ-loop Inv-walk μ-walk
 add-n c =
-    let at = c .before .before .before .before .before .before .before .before .before in
-    let over = at .before .before .before in
-    let start = over .before .before .before .before .before .before .before .before in
-    let a = start .args in
-    let l = a .circuit .now in
-    let v = a .input .now in
-    let ms = a .messages .now in
-    let cs = a .coins .now in
-    let more = subst (λ (i : ℕ). at .loop .round < i) (at .loop .inv .0) (c .before .before .before .before .before .before .before .before .loop-test .taken) in
-    let there = coin-there l v (a .output) ms cs (start .pre) (over .walk .layer) (at .loop .round) (at .loop .n) (at .loop .at) (at .loop .claim) (at .loop .inv .1) more in
+    let there = coin (c .before .before .before .before .before .before .before .before) in
+    let known = layer (c .before .before .before .before .before .before .before .before) .before in
     search needs
 
 add-round : tie.Need-add-round Inv-loop μ-loop Inv-walk μ-walk
@@ -237,88 +172,43 @@ loop-less c = search needs
 
 loop-again : tie.Need-loop-again Inv-loop μ-loop Inv-walk μ-walk
 loop-again c =
-    let at = c .before .before .before .before .before .before .before .before .before in
-    let over = at .before .before .before in
-    let start = over .before .before .before .before .before .before .before .before in
-    let a = start .args in
-    let l = a .circuit .now in
-    let v = a .input .now in
-    let ms = a .messages .now in
-    let cs = a .coins .now in
-    let more = subst (λ (i : ℕ). at .loop .round < i) (at .loop .inv .0) (c .before .before .before .before .before .before .before .before .loop-test .taken) in
-    let f = prime-modulus l (legal-lists l v (start .pre .coins .lists) .circuit) _ (over .before .before .of .ensures) in
+    let t = c .before .before .before .before .before .before .before .before in
+    let o = layer t in
     let wide = c .before .before .before .before .before .before .before .message-length in
-    let m = take (at .loop .at + wide .result - at .loop .at) (drop (at .loop .at) ms) in
+    let m = take (t .before .loop .at + wide .result - t .before .loop .at) (drop (t .before .loop .at) (start o .args .messages .now)) in
+    let f = prime-modulus _ (legal (start o)) _ (o .before .before .of .ensures) in
     let passed = sym (c .before .before .before .before .judge .ensures) ∙ ap causeOf (c .before .before .enum-told .given .1) in (
-      at .loop .inv .0,
-      round-passes l v (a .output) ms cs (start .pre) (over .walk .layer) (at .loop .round) (at .loop .n) (at .loop .at) (at .loop .claim) (at .loop .inv .1) more (wide .result) (wide .ensures) (c .value-at .result) passed
-          (c .value-at .ensures ∙ ap (λ (p : ℕ). valueAt (words p) m (getD cs (at .loop .n) 0)) f),
+      t .before .loop .inv .0,
+      round-passes _ _ _ _ _ (start o .pre) _ _ _ _ _ (t .before .loop .inv .1) (more t) (wide .result) (wide .ensures) (c .value-at .result) passed
+          (c .value-at .ensures ∙ ap (λ (p : ℕ). valueAt (words-of p) m (getD (start o .args .coins .now) (t .before .loop .n) 0)) f),
     )
 
 add-layer : tie.Need-add-layer Inv-loop μ-loop Inv-walk μ-walk
 add-layer c =
-    let at = c .before in
-    let over = at .before .before .before in
-    let start = over .before .before .before .before .before .before .before .before in
-    let a = start .args in
-    let l = a .circuit .now in
-    let v = a .input .now in
-    let ms = a .messages .now in
-    let cs = a .coins .now in
-    let last = at .loop .inv .1 .last in
-    let low = legal-lists l v (start .pre .coins .lists) .circuit .sized .headed .shallow in
+    let last = c .before .loop .inv .1 .last in
+    let low = legal (start (c .before .before .before .before)) .sized .headed .shallow in
     omega arith
 
 walk-less : tie.Need-walk-less Inv-loop μ-loop Inv-walk μ-walk
-walk-less c =
-    let at = c .before in
-    let over = at .before .before .before in
-    let start = over .before .before .before .before .before .before .before .before in
-    let a = start .args in
-    let l = a .circuit .now in
-    let v = a .input .now in
-    let ms = a .messages .now in
-    let cs = a .coins .now in
-    let last = at .loop .inv .1 .last in
-    search needs
+walk-less c = let last = c .before .loop .inv .1 .last in search needs
 
 walk-again : tie.Need-walk-again Inv-loop μ-loop Inv-walk μ-walk
 walk-again c =
     let at = c .before in
-    let over = at .before .before .before in
-    let start = over .before .before .before .before .before .before .before .before in
-    let a = start .args in
-    let l = a .circuit .now in
-    let v = a .input .now in
-    let ms = a .messages .now in
-    let cs = a .coins .now in
-    layer-ends l v (a .output) ms cs (start .pre) (over .walk .layer) (at .loop .round) (at .loop .n) (at .loop .at) (at .loop .claim) (at .loop .inv .1) (subst (λ (i : ℕ). i ≤ at .loop .round) (at .loop .inv .0) (c .loop-test .left))
+    layer-ends _ _ _ _ _ (start (c .before .before .before .before) .pre) _ _ _ _ _ (at .loop .inv .1) (subst (λ (i : ℕ). i ≤ at .loop .round) (at .loop .inv .0) (c .loop-test .left))
 
 returns : tie.Need-returns Inv-loop μ-loop Inv-walk μ-walk
 returns c =
-    let over = c .before .before in
-    let start = over .before .before .before .before .before .before .before .before in
-    let a = start .args in
-    let l = a .circuit .now in
-    let v = a .input .now in
-    let ms = a .messages .now in
-    let cs = a .coins .now in
-    c .finish .ensures ∙ walk-ends l v (a .output) ms cs (start .pre) (over .walk .layer) (over .walk .n) (over .walk .at) (over .walk .claim) (over .walk .inv) (c .before .if1 .taken)
+    let o = c .before .before in
+    c .finish .ensures ∙ walk-ends _ _ _ _ _ (start o .pre) _ _ _ _ (o .walk .inv) (c .before .if1 .taken)
 
 returns-2 : tie.Need-returns-2 Inv-loop μ-loop Inv-walk μ-walk
 returns-2 c =
-    let at = c .before .before .before .before .before .before .before .before in
-    let over = at .before .before .before in
-    let start = over .before .before .before .before .before .before .before .before in
-    let a = start .args in
-    let l = a .circuit .now in
-    let v = a .input .now in
-    let ms = a .messages .now in
-    let cs = a .coins .now in
-    let more = subst (λ (i : ℕ). at .loop .round < i) (at .loop .inv .0) (c .before .before .before .before .before .before .before .loop-test .taken) in
+    let t = c .before .before .before .before .before .before .before in
     let wide = c .before .before .before .before .before .before .message-length in
     let told = c .before .judged .given in
-    round-refuses l v (a .output) ms cs (start .pre) (over .walk .layer) (at .loop .round) (at .loop .n) (at .loop .at) (at .loop .claim) (at .loop .inv .1) more (wide .result) (wide .ensures) (told .0 .0) (sym (ap causeOf (told .1)) ∙ c .before .before .before .judge .ensures)
+    round-refuses _ _ _ _ _ (start (layer t) .pre) _ _ _ _ _ (t .before .loop .inv .1) (more t) (wide .result) (wide .ensures) (told .0 .0)
+    (sym (ap causeOf (told .1)) ∙ c .before .before .before .judge .ensures)
 
 pub walk-spec : {M : Type 1} → statement M
 walk-spec =
