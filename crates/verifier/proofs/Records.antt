@@ -17,7 +17,7 @@ use Rattle.walk.specs.Session.{accepted, goOn, refused, Record, ended, stepFina
 use Rattle.protocol.specs.Rounds.{Place, place, isLine, isLast}
 use Rattle.protocol.specs.Judge.{inputAgrees, descent}
 use Rattle.protocol.specs.Session.{recordFits}
-use Rattle.verifier.specs.Answers.{Finished, recordOf, verdictOf, Fitting, goesOn, GoesOn}
+use Rattle.verifier.specs.Answers.{Finished, recordOf, openAt, verdictOf, Fitting, goesOn, GoesOn}
 use Rattle.verifier.specs.declared.Session.{Session}
 use Rattle.verifier.specs.declared.Stepped.{Stepped}
 use Rattle.standing.specs.Standing.{LayerSoFar}
@@ -124,23 +124,20 @@ module _ (c input cs : List ℕ) (s : Session) (h : Fitting c input cs s) where
       after = after ∙ ap (λ (x : Bool). goesOn c input cs s coin y x .1) (sym e);
     }
 
-    abbrev pub next-at : Place → Record Place
-    next-at r = record { round = r; claim = y; opened = true }
-
     pub goes-round : isLine c (place (s .layer) (s .round)) ≡ false → (r : Stepped) → verdictOf (r .verdict) ≡ goOn coin
-        → recordOf (r .session) ≡ next-at (place (s .layer) (s .round + 1)) → GoesOn c input cs s coin y r
+        → recordOf (r .session) ≡ openAt (place (s .layer) (s .round + 1)) y → GoesOn c input cs s coin y r
     goes-round e r answer after =
         goes false (ap (λ (b : Bool). b && eqb (s .layer) (length (exponents c))) e) r answer
-        (after ∙ ap (λ (j : ℕ). next-at (place (s .layer) j)) (add-one (s .round))
-        ∙ ap (λ (b : Bool). next-at (cond b (place (suc (s .layer)) 0) (place (s .layer) (suc (s .round))))) (sym e))
+        (after ∙ ap (λ (j : ℕ). openAt (place (s .layer) j) y) (add-one (s .round))
+        ∙ ap (λ (b : Bool). openAt (cond b (place (suc (s .layer)) 0) (place (s .layer) (suc (s .round)))) y) (sym e))
 
     pub goes-layer : isLine c (place (s .layer) (s .round)) ≡ true → s .layer < depth c → (r : Stepped) → verdictOf (r .verdict) ≡ goOn coin
-        → recordOf (r .session) ≡ next-at (place (s .layer + 1) 0) → GoesOn c input cs s coin y r
+        → recordOf (r .session) ≡ openAt (place (s .layer + 1) 0) y → GoesOn c input cs s coin y r
     goes-layer e more r answer after =
         let ne : ¬ (s .layer ≡ length (exponents c)) = λ (q : s .layer ≡ length (exponents c)). omega (arith, q, more, deep c legal) in
         goes false (ap (λ (b : Bool). b && eqb (s .layer) (length (exponents c))) e ∙ ne-eqb (s .layer) (length (exponents c)) ne) r answer
-        (after ∙ ap (λ (i : ℕ). next-at (place i 0)) (add-one (s .layer))
-        ∙ ap (λ (b : Bool). next-at (cond b (place (suc (s .layer)) 0) (place (s .layer) (suc (s .round))))) (sym e))
+        (after ∙ ap (λ (i : ℕ). openAt (place i 0) y) (add-one (s .layer))
+        ∙ ap (λ (b : Bool). openAt (cond b (place (suc (s .layer)) 0) (place (s .layer) (suc (s .round)))) y) (sym e))
 
     module _ (e : isLine c (place (s .layer) (s .round)) ≡ true) (ne : ¬ (s .layer < depth c)) (r : Stepped) (after : recordOf (r .session) ≡ ended (recordOf s)) where
       is-last : isLast c (place (s .layer) (s .round)) ≡ true

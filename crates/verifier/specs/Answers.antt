@@ -25,6 +25,10 @@ use Rattle.verifier.specs.declared.Stepped.{Stepped}
 abbrev pub recordOf : Session → Record Place
 recordOf s = record { round = place (s .layer) (s .round); claim = s .claim; opened = s .open }
 
+-- an open record
+abbrev pub openAt : Place → ℕ → Record Place
+openAt r y = record { round = r; claim = y; opened = true }
+
 -- CHECK: 0 accepted, else the refusal's number
 abbrev pub outcomeOf : Outcome → ℕ
 outcomeOf outcome.Accepted = 0
@@ -60,7 +64,7 @@ pub record Fitting (c input cs : List ℕ) (s : Session) : Type 0 where
 -- what follows a message that passed, from its coin and the new claim; the last comparison is of all coins
 abbrev pub goesOn : List ℕ → List ℕ → List ℕ → Session → ℕ → ℕ → Bool → Answer × Record Place
 goesOn c input cs s coin y true = stepFinal (descent c input) (inputAgrees c input cs y) (recordOf s)
-goesOn c input cs s coin y false = (goOn coin, record { round = placeAfter c (place (s .layer) (s .round)); claim = y; opened = true })
+goesOn c input cs s coin y false = (goOn coin, openAt (placeAfter c (place (s .layer) (s .round))) y)
 
 pub record GoesOn (c input cs : List ℕ) (s : Session) (coin y : ℕ) (r : Stepped) : Type 0 where
   pub answer : verdictOf (r .verdict) ≡ goesOn c input cs s coin y (isLast c (place (s .layer) (s .round))) .0

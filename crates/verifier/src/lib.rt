@@ -9,9 +9,9 @@ ghost use Rattle.refusal.specs.Number.{numberOf, causeOf};
 ghost use Rattle.circuit.specs.Circuit.{exponentAt};
 ghost use Rattle.circuit.specs.Sized.{LegalCircuit};
 ghost use Rattle.standing.specs.Standing.{AtRound};
-ghost use Rattle.verifier.specs.Answers.{outcomeOf, Finished, Counted, recordOf, openingOf, verdictOf, Fitting, GoesOn, StepsOpen, Steps};
+ghost use Rattle.verifier.specs.Answers.{outcomeOf, Finished, Counted, recordOf, openAt, openingOf, verdictOf, Fitting, GoesOn, StepsOpen, Steps};
 ghost use Rattle.walk.specs.Game.{finalCause, walk};
-ghost use Rattle.walk.specs.Session.{refused, ended};
+ghost use Rattle.walk.specs.Session.{goOn, refused, ended};
 ghost use Rattle.protocol.specs.Session.{openAnswer, recordFits};
 ghost use Rattle.protocol.specs.Rounds.{place, rounds, isLine};
 ghost use Rattle.protocol.specs.Judge.{fixed, pointAt, lineClaim, compared, judge, inputAgrees, descent};
@@ -246,6 +246,21 @@ fn ended(session: Session) -> Session
     }
 }
 
+// A step to the next round, with the coin that it hands out.
+fn went_on(layer: u32, round: u32, coin: u32, claim: u32) -> Stepped
+    ensures { λ r. ⌜ (verdictOf (r .verdict) ≡ goOn coin) × (recordOf (r .session) ≡ openAt (place layer round) claim) ⌝ }
+{
+    Stepped {
+        verdict: Verdict::GoOn(coin),
+        session: Session {
+            layer,
+            round,
+            claim,
+            open: true,
+        },
+    }
+}
+
 // After a message that passed: the next round with its coin, or the last comparison.
 fn go_on(
     circuit: &[u32],
@@ -260,29 +275,11 @@ fn go_on(
 {
     if !standing::is_line(circuit, session.layer as usize, session.round as usize) {
         let round = session.round + 1;
-        let next = Session {
-            layer: session.layer,
-            round,
-            claim,
-            open: true,
-        };
-        return Stepped {
-            verdict: Verdict::GoOn(coin),
-            session: next,
-        };
+        return went_on(session.layer, round, coin, claim);
     }
     if session.layer < circuit[1] {
         let layer = session.layer + 1;
-        let next = Session {
-            layer,
-            round: 0,
-            claim,
-            open: true,
-        };
-        return Stepped {
-            verdict: Verdict::GoOn(coin),
-            session: next,
-        };
+        return went_on(layer, 0, coin, claim);
     }
     let closed = ended(session);
     if input_agrees(circuit, input, coins, claim) {

@@ -28,15 +28,19 @@ add-round c =
     let low = small-round l v cs s (start .pre) in
     omega arith
 
+went-on-requires : tie.Need-went-on-requires
+went-on-requires c κs = search needs
+
 returns : tie.Need-returns
 returns c =
-    let start = c .before .before .before .before .before .before .before .before in
+    let start = c .before .before .before .before .before .before .before .before .before in
     let a = start .args in
     let l = a .circuit .now in
     let v = a .input .now in
     let cs = a .coins .now in
     let s = a .session in
-    goes-round l v cs s (start .pre) (a .coin) (a .claim) (sym (c .before .before .is-line .ensures) ∙ not-true (c .before .if1 .taken)) _ refl refl
+    goes-round l v cs s (start .pre) (a .coin) (a .claim) (sym (c .before .before .before .is-line .ensures) ∙ not-true (c .before .before .if1 .taken)) _ (c .went-on .ensures .0)
+    (c .went-on .ensures .1)
 
 shared-slice-read-if2 : tie.Need-shared-slice-read-if2
 shared-slice-read-if2 c =
@@ -60,16 +64,19 @@ add-layer c =
     let low = small-layer l v cs s (start .pre) in
     omega arith
 
+went-on-requires-2 : tie.Need-went-on-requires-2
+went-on-requires-2 c κs = search needs
+
 returns-2 : tie.Need-returns-2
 returns-2 c =
-    let start = c .before .before .before .before .before .before .before .before .before .before .before in
+    let start = c .before .before .before .before .before .before .before .before .before .before .before .before in
     let a = start .args in
     let l = a .circuit .now in
     let v = a .input .now in
     let cs = a .coins .now in
     let s = a .session in
-    let line = c .before .before .before .before in
-    goes-layer l v cs s (start .pre) (a .coin) (a .claim) (sym (line .before .is-line .ensures) ∙ not-false (line .if1 .left)) (c .before .if2 .taken) _ refl refl
+    let line = c .before .before .before .before .before in
+    goes-layer l v cs s (start .pre) (a .coin) (a .claim) (sym (line .before .is-line .ensures) ∙ not-false (line .if1 .left)) (c .before .before .if2 .taken) _ (c .went-on2 .ensures .0) (c .went-on2 .ensures .1)
 
 input-agrees-requires : tie.Need-input-agrees-requires
 input-agrees-requires c κs = search needs
@@ -109,9 +116,11 @@ go-on-spec =
     cast-is-line-2
     is-line-requires
     add-round
+    went-on-requires
     returns
     shared-slice-read-if2
     add-layer
+    went-on-requires-2
     returns-2
     ended-requires
     input-agrees-requires
