@@ -81,7 +81,14 @@ inside t = at-inside _ _ _ _ (can (layer t)) _ _ _ _ _ (t .before .loop2 .inv .3
 abbrev part : Turn → List ℕ
 part t = take (length (t .before .loop2 .messages) - t .before .loop2 .at) (drop (t .before .loop2 .at) (t .before .loop2 .messages))
 
-ready : (t : Turn) → Writable (start (layer t) .args .circuit .now) (layer t .loop .layer) (t .before .loop2 .round) (take (t .before .loop2 .n) (start (layer t) .args .coins .now)) (valuesIn (start (layer t) .args .circuit .now) (layer t .loop .layer) (layer t .before .before .all-values .result)) (part t)
+-- the layer's values, and the coins before the round
+abbrev own : Turn → List ℕ
+own t = valuesIn (start (layer t) .args .circuit .now) (layer t .loop .layer) (layer t .before .before .all-values .result)
+
+abbrev past : Turn → List ℕ
+past t = take (t .before .loop2 .n) (start (layer t) .args .coins .now)
+
+ready : (t : Turn) → Writable (start (layer t) .args .circuit .now) (layer t .loop .layer) (t .before .loop2 .round) (past t) (own t) (part t)
 ready t = writable _ _ (start (layer t) .pre .lists) _ (held (layer t)) _ _ _ (part t) (spot t) (lent-room _ _ _ _ (can (layer t)) _ _ _ _ _ (t .before .loop2 .inv .3) (more t))
 
 all-values-requires : tie.Need-all-values-requires Inv-loop2 μ-loop2 Inv-loop μ-loop

@@ -1,15 +1,49 @@
 -- `write_message` meets its contract: the part of all values that it lends on is the layer's.
 -- Assumes nothing.
-use Prim.Native.Nat.{ℕ}
-use mathlib.Core.Path.{sym, ap, _∙_}
+use Prim.Native.Nat.{ℕ, _+_, _-_, _*_, _≤_}
+use mathlib.Core.Path.{_≡_, sym, ap, _∙_}
 use mathlib.Core.List.{List}
+use lib.ListN.{length, take, drop}
 use Rattle.lists.specs.Buffer.{over}
+use Rattle.circuit.specs.Limits.{maxDepth}
 use Rattle.protocol.specs.Rounds.{place}
 use Rattle.protocol.specs.Prove.{messageFrom}
+use Rattle.prover.specs.Writing.{valuesIn, Writable}
 use Rattle.prover.proofs.Values.{part-small, part-inside, part-values, part-writable}
 use borrow.Author.Needs.{needs}
 use Rattle.prover.proofs.write_message.Statement.{statement}
 use Rattle.prover.proofs.write_message.Tie as tie
+
+-- what is known once the layer's part is measured
+abbrev start : tie.After-width → tie.Start
+start w = w .before .before .before .before .before .before .before
+
+abbrev from : tie.After-width → ℕ
+from w = w .before .before .gates-before .result
+
+abbrev part : tie.After-width → List ℕ
+part w = take (from w + w .width .result - from w) (drop (from w) (start w .args .values .now))
+
+small : (w : tie.After-width) → from w + w .width .result ≤ 256 * maxDepth + 256
+small w = part-small _ _ _ _ _ _ (start w .pre) _ _ _ (w .before .before .gates-before .ensures) (w .before .exponent .ensures) (w .width .ensures)
+
+inside : (w : tie.After-width) → from w + w .width .result ≤ length (start w .args .values .now)
+inside w = part-inside _ _ _ _ _ _ (start w .pre) _ _ _ (w .before .before .gates-before .ensures) (w .before .exponent .ensures) (w .width .ensures)
+
+whole : (w : tie.After-width) → part w ≡ valuesIn (start w .args .circuit .now) (start w .args .layer) (start w .args .values .now)
+whole w = part-values _ _ _ _ _ _ (start w .pre) _ _ _ (w .before .before .gates-before .ensures) (w .before .exponent .ensures) (w .width .ensures)
+
+ready : (w : tie.After-width)
+    → Writable (start w .args .circuit .now) (start w .args .layer) (start w .args .round) (start w .args .past .now) (part w) (start w .args .buffer .now)
+ready w = part-writable _ _ _ _ _ _ (start w .pre) _ _ _ (w .before .before .gates-before .ensures) (w .before .exponent .ensures) (w .width .ensures)
+
+-- a message from the part is one from the layer's values
+from-whole : (w : tie.After-width) (after : List ℕ)
+    → after ≡ over (messageFrom (start w .args .circuit .now) (part w) (place (start w .args .layer) (start w .args .round)) (start w .args .past .now)) (start w .args .buffer .now)
+    → after ≡ over (messageFrom (start w .args .circuit .now) (valuesIn (start w .args .circuit .now) (start w .args .layer) (start w .args .values .now)) (place (start w .args .layer) (start w .args .round)) (start w .args .past .now)) (start w .args .buffer .now)
+from-whole w after e =
+    let a = start w .args in
+    e ∙ ap (λ (vs : List ℕ). over (messageFrom (a .circuit .now) vs (place (a .layer) (a .round)) (a .past .now)) (a .buffer .now)) (whole w)
 
 gates-before-requires : tie.Need-gates-before-requires
 gates-before-requires c κs = search needs
@@ -21,11 +55,7 @@ width-requires : tie.Need-width-requires
 width-requires c κs = search needs
 
 add-to : tie.Need-add-to
-add-to c =
-    let own = c .before .before in
-    let a = own .before .before .before .before .before .args in
-    let small = part-small (a .circuit .now) (a .layer) (a .round) (a .past .now) (a .values .now) (a .buffer .now) (own .before .before .before .before .before .pre) (own .gates-before .result) (c .before .exponent .result) (c .width .result) (own .gates-before .ensures) (c .before .exponent .ensures) (c .width .ensures) in
-    search needs
+add-to c = let few = small c in search needs
 
 is-line-requires : tie.Need-is-line-requires
 is-line-requires c κs = search needs
@@ -40,28 +70,16 @@ part-write-line-start : tie.Need-part-write-line-start
 part-write-line-start c = search needs
 
 part-write-line-end : tie.Need-part-write-line-end
-part-write-line-end c =
-    let own = c .before .before .before .before in
-    let a = own .before .before .before .before .before .args in
-    let inside = part-inside (a .circuit .now) (a .layer) (a .round) (a .past .now) (a .values .now) (a .buffer .now) (own .before .before .before .before .before .pre) (own .gates-before .result) (c .before .before .before .exponent .result) (c .before .before .width .result) (own .gates-before .ensures) (c .before .before .before .exponent .ensures) (c .before .before .width .ensures) in
-    search needs
+part-write-line-end c = let fits = inside (c .before .before) in search needs
 
 write-line-requires : tie.Need-write-line-requires
-write-line-requires c κs =
-    let own = c .before .before .before .before .before .before in
-    let a = own .before .before .before .before .before .args in
-    (part-writable (a .circuit .now) (a .layer) (a .round) (a .past .now) (a .values .now) (a .buffer .now) (own .before .before .before .before .before .pre) (own .gates-before .result) (c .before .before .before .before .before .exponent .result) (c .before .before .before .before .width .result) (own .gates-before .ensures) (c .before .before .before .before .before .exponent .ensures) (c .before .before .before .before .width .ensures), sym (c .before .before .before .is-line .ensures) ∙ search needs)
+write-line-requires c κs = (ready (c .before .before .before .before), sym (c .before .before .before .is-line .ensures) ∙ search needs)
 
 same-length : tie.Need-same-length
 same-length c = search needs
 
 returns : tie.Need-returns
-returns c =
-    let own = c .before .before .before .before .before .before .before .before .before in
-    let a = own .before .before .before .before .before .args in
-    let whole = part-values (a .circuit .now) (a .layer) (a .round) (a .past .now) (a .values .now) (a .buffer .now) (own .before .before .before .before .before .pre) (own .gates-before .result) (c .before .before .before .before .before .before .before .before .exponent .result) (c .before .before .before .before .before .before .before .width .result) (own .gates-before .ensures) (c .before .before .before .before .before .before .before .before .exponent .ensures) (c .before .before .before .before .before .before .before .width .ensures) in
-    c .before .before .write-line .ensures
-    ∙ ap (λ (vs : List ℕ). over (messageFrom (a .circuit .now) vs (place (a .layer) (a .round)) (a .past .now)) (a .buffer .now)) whole
+returns c = from-whole (c .before .before .before .before .before .before .before) _ (c .before .before .write-line .ensures)
 
 mul-write-sum : tie.Need-mul-write-sum
 mul-write-sum c = search needs
@@ -73,28 +91,16 @@ part-write-sum-start : tie.Need-part-write-sum-start
 part-write-sum-start c = search needs
 
 part-write-sum-end : tie.Need-part-write-sum-end
-part-write-sum-end c =
-    let own = c .before .before .before .before in
-    let a = own .before .before .before .before .before .args in
-    let inside = part-inside (a .circuit .now) (a .layer) (a .round) (a .past .now) (a .values .now) (a .buffer .now) (own .before .before .before .before .before .pre) (own .gates-before .result) (c .before .before .before .exponent .result) (c .before .before .width .result) (own .gates-before .ensures) (c .before .before .before .exponent .ensures) (c .before .before .width .ensures) in
-    search needs
+part-write-sum-end c = let fits = inside (c .before .before) in search needs
 
 write-sum-requires : tie.Need-write-sum-requires
-write-sum-requires c κs =
-    let own = c .before .before .before .before .before .before in
-    let a = own .before .before .before .before .before .args in
-    (part-writable (a .circuit .now) (a .layer) (a .round) (a .past .now) (a .values .now) (a .buffer .now) (own .before .before .before .before .before .pre) (own .gates-before .result) (c .before .before .before .before .before .exponent .result) (c .before .before .before .before .width .result) (own .gates-before .ensures) (c .before .before .before .before .before .exponent .ensures) (c .before .before .before .before .width .ensures), sym (c .before .before .before .is-line .ensures) ∙ search needs)
+write-sum-requires c κs = (ready (c .before .before .before .before), sym (c .before .before .before .is-line .ensures) ∙ search needs)
 
 same-length-2 : tie.Need-same-length-2
 same-length-2 c = search needs
 
 returns-2 : tie.Need-returns-2
-returns-2 c =
-    let own = c .before .before .before .before .before .before .before .before .before in
-    let a = own .before .before .before .before .before .args in
-    let whole = part-values (a .circuit .now) (a .layer) (a .round) (a .past .now) (a .values .now) (a .buffer .now) (own .before .before .before .before .before .pre) (own .gates-before .result) (c .before .before .before .before .before .before .before .before .exponent .result) (c .before .before .before .before .before .before .before .width .result) (own .gates-before .ensures) (c .before .before .before .before .before .before .before .before .exponent .ensures) (c .before .before .before .before .before .before .before .width .ensures) in
-    c .before .before .write-sum .ensures
-    ∙ ap (λ (vs : List ℕ). over (messageFrom (a .circuit .now) vs (place (a .layer) (a .round)) (a .past .now)) (a .buffer .now)) whole
+returns-2 c = from-whole (c .before .before .before .before .before .before .before) _ (c .before .before .write-sum .ensures)
 
 pub write-message-spec : {M : Type 1} → statement M
 write-message-spec =
