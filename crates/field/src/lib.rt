@@ -91,7 +91,7 @@ impl Field {
         ensures { λ r. ⌜ r .by ≡ word % modulus self ⌝ }
     {
         let p = self.largest as u64 + 1;
-        let by = self.remainder(word as u64);
+        let by = self.reduce_once(word as u64);
         let share = by as u64 * 4294967296 / p;
         Multiplier {
             by,

@@ -13,8 +13,8 @@ cast-p c = search needs
 add-p : tie.Need-add-p
 add-p c = search needs
 
-remainder-requires : tie.Need-remainder-requires
-remainder-requires c κs = search needs
+reduce-once-requires : tie.Need-reduce-once-requires
+reduce-once-requires c κs = search needs
 
 cast-share : tie.Need-cast-share
 cast-share c = search needs
@@ -26,7 +26,7 @@ div-share : tie.Need-div-share
 div-share c = search needs
 
 cast-t8 : tie.Need-cast-t8
-cast-t8 c = share-fits (rw (c .remainder .ensures) (mod-lt (c .before .before .args .word) (omega arith)))
+cast-t8 c = share-fits (rw (c .reduce-once .ensures) (mod-lt (c .before .before .args .word) (omega arith)))
 
 returns : tie.Need-returns
 returns c = search needs
@@ -34,4 +34,4 @@ returns c = search needs
 pub multiplier-spec : {M : Type 1} → statement M
 multiplier-spec =
     tie.close
-    (tie.spec cast-p add-p remainder-requires cast-share mul-share div-share cast-t8 returns)
+    (tie.spec cast-p add-p reduce-once-requires cast-share mul-share div-share cast-t8 returns)
