@@ -151,10 +151,14 @@ fn by_points(
     let n = lists::least(MAX_WIDTH, values.len());
     let lcut = cut_at(k, first, first < k);
     let rcut = cut_at(k, second, k <= first);
-    let lshares = tables::weights(f, u, first);
-    let rshares = tables::weights(f, v, second);
-    let ltable = tables::folded(f, values, u, first);
-    let rtable = tables::folded(f, values, v, second);
+    let mut lshares = [0u32; MAX_WIDTH];
+    tables::weights(f, u, first, &mut lshares);
+    let mut rshares = [0u32; MAX_WIDTH];
+    tables::weights(f, v, second, &mut rshares);
+    let mut ltable = [0u32; MAX_WIDTH];
+    tables::folded(f, values, u, first, &mut ltable);
+    let mut rtable = [0u32; MAX_WIDTH];
+    tables::folded(f, values, v, second, &mut rtable);
     by_gates(
         f,
         gates,
@@ -187,7 +191,8 @@ pub fn sum_message(
     let first = lists::least(fixed, exponent);
     let second = lists::least(fixed - first, exponent);
     let width = legality::width(lists::least(above, MAX_COORDINATES) as u32);
-    let weights = tables::weights(f, point, above);
+    let mut weights = [0u32; MAX_WIDTH];
+    tables::weights(f, point, above, &mut weights);
     let u = points[0];
     let v = points[1];
     by_points(

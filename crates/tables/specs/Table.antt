@@ -14,6 +14,11 @@ pub record Table (entries table : List ℕ) : Type 0 where
   pub size : length table ≡ maxWidth
   pub holds : take (length entries) table ≡ entries
 
+-- a lent array of that length gets the entries, and any other is left as it was
+pub record Written (entries before after : List ℕ) : Type 0 where
+  pub whole : length before ≡ maxWidth → Table entries after
+  pub other : (length before ≡ maxWidth → ⊥) → after ≡ before
+
 -- the weights at a point with z before it, from those at the point
 unfoldable pub spread : {C : Type 0} → Numbers C → C → List C → List C
 spread N z ws = map (λ w. N .mul (N .sub (N .𝟙) z) w) ws ++ map (λ w. N .mul z w) ws

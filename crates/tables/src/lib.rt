@@ -1,5 +1,6 @@
 // Tables over the gates of a layer, modulo a field's modulus: the weights of all indices at a point, and values with their first variables
-// fixed. A row's first k words are the point; a k above its length stands for all of it. All of it is right for any words.
+// fixed. A row's first k words are the point; a k above its length stands for all of it. All of it is right for any words. The caller lends
+// the table, so that none is copied on the way back; one of another length than MAX_WIDTH is left as it was.
 use extension::MAX_COORDINATES;
 use field::Field;
 ghost use mathlib.Core.Path.{_≡_};
@@ -9,7 +10,7 @@ ghost use Rattle.lists.specs.Buffer.{over};
 ghost use Rattle.field.specs.Modulus.{numbers};
 ghost use Rattle.multilinear.specs.Extension.{fold};
 ghost use Rattle.multilinear.specs.Tables.{weights, folded};
-ghost use Rattle.tables.specs.Table.{maxWidth, Table, spread};
+ghost use Rattle.tables.specs.Table.{maxWidth, Written, spread};
 
 // The gates of the widest layer.
 pub const MAX_WIDTH: usize = 256;
@@ -28,11 +29,14 @@ fn spread(f: Field, table: &mut [u32], z: u32)
     }
 }
 
-// The weights of all indices at the point. The first variable has the highest bit, so the last coordinate comes first.
-pub fn weights(f: Field, row: [u32; MAX_COORDINATES], k: usize) -> [u32; MAX_WIDTH]
-    ensures { λ r. ⌜ Table (weights (numbers f) (take k row)) r ⌝ }
+// Writes the weights of all indices at the point to a table's front. The first variable has the highest bit, so the last coordinate comes
+// first.
+pub fn weights(f: Field, row: [u32; MAX_COORDINATES], k: usize, table: &mut [u32])
+    ensures { λ _. ⌜ Written (weights (numbers f) (take k row)) (now (table .entry)) (now (table .exit)) ⌝ }
 {
-    let mut table = [0u32; MAX_WIDTH];
+    if table.len() != MAX_WIDTH {
+        return;
+    }
     table[0] = Field::ONE;
     let mut n = 1;
     let mut left = lists::least(k, MAX_COORDINATES);
@@ -41,7 +45,6 @@ pub fn weights(f: Field, row: [u32; MAX_COORDINATES], k: usize) -> [u32; MAX_WID
         n = 2 * n;
         spread(f, &mut table[..n], row[left]);
     }
-    table
 }
 
 // Fixes the first variable of a table at r: its fold is written over the front.
@@ -56,24 +59,17 @@ fn fold(f: Field, table: &mut [u32], r: u32)
     }
 }
 
-// The values at the front of an array.
-fn placed(values: &[u32]) -> [u32; MAX_WIDTH]
-    ensures { λ r. ⌜ Table (take maxWidth (now (values .entry))) r ⌝ }
+// Writes the values with their first variables fixed at the point to a table's front. Of more than MAX_WIDTH values the first MAX_WIDTH count.
+pub fn folded(f: Field, values: &[u32], row: [u32; MAX_COORDINATES], k: usize, table: &mut [u32])
+    ensures { λ _. ⌜ Written (folded (numbers f) (take k row) (take maxWidth (now (values .entry)))) (now (table .entry)) (now (table .exit)) ⌝ }
 {
-    let mut table = [0u32; MAX_WIDTH];
-    lists::put(&mut table, values);
-    table
-}
-
-// The values with their first variables fixed at the point. Of more than MAX_WIDTH values the first MAX_WIDTH count.
-pub fn folded(f: Field, values: &[u32], row: [u32; MAX_COORDINATES], k: usize) -> [u32; MAX_WIDTH]
-    ensures { λ r. ⌜ Table (folded (numbers f) (take k row) (take maxWidth (now (values .entry)))) r ⌝ }
-{
-    let mut table = placed(values);
+    if table.len() != MAX_WIDTH {
+        return;
+    }
+    lists::put(table, values);
     let mut n = lists::least(MAX_WIDTH, values.len());
     for i in 0..lists::least(k, MAX_COORDINATES) {
         fold(f, &mut table[..n], row[i]);
         n = n / 2;
     }
-    table
 }

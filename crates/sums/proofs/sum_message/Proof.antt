@@ -1,7 +1,7 @@
 -- `sum_message` meets its contract: the clipped numbers of coordinates take the coordinates that are fixed, and the part that is lent is the
 -- weight list.
 -- Assumes nothing.
-use mathlib.Core.Path.{_≡_, ap, _∙_}
+use mathlib.Core.Path.{_≡_, refl, ap, _∙_}
 use native.Mathlib.Nat.{min-le-right}
 use native.Mathlib.Omega.{arith}
 use lib.ListN.{length, take}
@@ -39,6 +39,9 @@ cast-width c = search needs
 width-requires : tie.Need-width-requires
 width-requires c κs = search needs
 
+slice-aggregate-weights : tie.Need-slice-aggregate-weights
+slice-aggregate-weights c = search needs
+
 weights-requires : tie.Need-weights-requires
 weights-requires c κs = search needs
 
@@ -50,25 +53,25 @@ array-copy-out-v c = search needs
 
 array-share-prefix-weights : tie.Need-array-share-prefix-weights
 array-share-prefix-weights c =
-    width-within _ _ _ _ (c .before .before .weights .ensures) (c .before .before .before .width .ensures)
+    width-within _ _ _ _ (c .before .before .before .weights2 .ensures .whole refl) (c .before .before .before .before .before .width .ensures)
 
 slice-aggregate-by-points : tie.Need-slice-aggregate-by-points
 slice-aggregate-by-points c =
-    lent _ _ (width-within _ _ _ _ (c .before .before .before .weights .ensures) (c .before .before .before .before .width .ensures))
+    lent _ _ (width-within _ _ _ _ (c .before .before .before .before .weights2 .ensures .whole refl) (c .before .before .before .before .before .before .width .ensures))
 
 by-points-requires : tie.Need-by-points-requires
 by-points-requires c κs = search needs
 
 returns : tie.Need-returns
 returns c =
-    let start = c .before .before .before .before .before .before .before .before .before .before .before .before in
+    let start = c .before .before .before .before .before .before .before .before .before .before .before .before .before .before in
     let args = start .args in
-    let exponent = c .before .before .before .before .before .before .before .before .before .least .ensures in
+    let exponent = c .before .before .before .before .before .before .before .before .before .before .before .least .ensures in
     let size : length (args .point) ≡ 8 = search needs in
     round-is (modulus (args .f)) (gatesIn (args .gates .now)) (args .point) (args .above) (take maxWidth (args .values .now)) (args .t6) _ (args .fixed)
     _ _ _ _ (c .by-points .result) size (length-row 2 8 (args .t6) _ 0 (start .good .1 .1 .1 .1 .1 .0) (omega arith))
-    (omega (arith, exponent, min-le-right (args .k) maxExponent)) (c .before .before .before .before .before .before .before .before .least2 .ensures) (c .before .before .before .before .before .before .before .least3 .ensures)
-    (c .before .before .before .before .before .width .ensures ∙ ap widthOf (c .before .before .before .before .before .before .least4 .ensures)) (c .before .before .before .before .weights .ensures) (c .by-points .ensures)
+    (omega (arith, exponent, min-le-right (args .k) maxExponent)) (c .before .before .before .before .before .before .before .before .before .before .least2 .ensures) (c .before .before .before .before .before .before .before .before .before .least3 .ensures)
+    (c .before .before .before .before .before .before .before .width .ensures ∙ ap widthOf (c .before .before .before .before .before .before .before .before .least4 .ensures)) (c .before .before .before .before .before .weights2 .ensures .whole refl) (c .by-points .ensures)
     ∙ ap (λ k. sumByGates (numbers (args .f)) k (gatesIn (args .gates .now)) (take (args .above) (args .point)) (take maxWidth (args .values .now))
     (fixedFirst k (args .fixed) (args .t6)) (fixedSecond k (args .fixed) (args .t6))) exponent
 
@@ -83,6 +86,7 @@ sum-message-spec =
     least-requires-4
     cast-width
     width-requires
+    slice-aggregate-weights
     weights-requires
     array-copy-out-u
     array-copy-out-v

@@ -6,6 +6,7 @@ use native.Mathlib.Omega.{arith}
 use mathlib.Core.Path.{_≡_, refl, sym, ap, _∙_}
 use lib.ListN.{length, take, getD}
 use lib.Seq.{length-take-le, getD-take}
+use Rattle.lists.proofs.Buffer.{put-size, put-front}
 use Rattle.lists.proofs.Parts.{length-most}
 use Rattle.field.specs.Modulus.{numbers}
 use Rattle.tables.specs.Table.{maxWidth}
@@ -15,13 +16,16 @@ use Rattle.tables.proofs.folded.Statement.{statement}
 use Rattle.tables.proofs.folded.Tie as tie
 
 abbrev Inv-loop : tie.InvT-loop
-Inv-loop f values k row table₀ n₀ i₀ i-end table n i = Fixed (numbers f) (take k row) (take maxWidth values) table n i
+Inv-loop f values k table₀ row n₀ i₀ i-end table n i = Fixed (numbers f) (take k row) (take maxWidth values) table n i
 
 abbrev μ-loop : tie.MeasureT-loop
-μ-loop f values k row table₀ n₀ i₀ i-end table n i = i-end - i
+μ-loop f values k table₀ row n₀ i₀ i-end table n i = i-end - i
 
-placed-requires : tie.Need-placed-requires Inv-loop μ-loop
-placed-requires c κs = search needs
+returns : tie.Need-returns Inv-loop μ-loop
+returns c = record { whole = λ e. absurd (c .if1 .taken e); other = λ _. refl }
+
+put-requires : tie.Need-put-requires Inv-loop μ-loop
+put-requires c κs = search needs
 
 least-requires : tie.Need-least-requires Inv-loop μ-loop
 least-requires c κs = search needs
@@ -31,14 +35,17 @@ least-requires-2 c κs = search needs
 
 loop-holds : tie.Need-loop-holds Inv-loop μ-loop
 loop-holds c =
-    let values = c .before .before .before .before .args .values .now in
-    let placed = c .before .before .placed .ensures in
+    let written = c .before .before .before .before in
+    let start = written .before .before .before .before .before in
+    let values = start .args .values .now in
+    let table = start .args .table .now in
+    let size = written .before .before .if1 .left in
     let count : c .before .least .result ≡ length (take maxWidth values) = length-most maxWidth _ _ values refl (c .before .least .ensures) in
-    none-fixed _ _ _ _ (c .before .least .result) (omega (arith, c .before .least .ensures)) (placed .size)
-    (ap (λ (n : ℕ). take n (c .before .before .placed .result)) count ∙ placed .holds)
+    none-fixed _ _ _ _ (c .before .least .result) (omega (arith, c .before .least .ensures)) (put-size values table _ maxWidth size (written .put .ensures))
+    (ap (λ (n : ℕ). take n (written .put .last .0)) count ∙ put-front values table _ maxWidth size (written .put .ensures))
 
-array-borrow-prefix-table : tie.Need-array-borrow-prefix-table Inv-loop μ-loop
-array-borrow-prefix-table c = search needs
+slice-relend-prefix-fold : tie.Need-slice-relend-prefix-fold Inv-loop μ-loop
+slice-relend-prefix-fold c = search needs
 
 slice-aggregate-fold : tie.Need-slice-aggregate-fold Inv-loop μ-loop
 slice-aggregate-fold c =
@@ -62,23 +69,27 @@ loop-less c = search needs
 
 loop-again : tie.Need-loop-again Inv-loop μ-loop
 loop-again c =
-    let at = c .before .before .before .before in
-    let start = at .before .before .before .before .before in
+    let at = c .before .before .before .before .before in
+    let start = at .before .before .before .before .before .before .before .before .before .before in
     let i = at .loop .i in
     let row = start .args .t3 in
     let k = start .args .k in
     let least = at .before .least2 .ensures in
     let count = length-most k 8 _ row (search needs) least in
-    fix-next _ _ _ (at .loop .table) (c .before .fold .last .1 .0) (at .loop .n) i 0 (getD row i 0) (at .loop .inv) (search needs)
-    (sym (getD-take k row i 0 (search needs))) (c .before .fold .ensures)
+    fix-next _ _ _ (at .loop .table) (c .before .before .fold .last .1 .0) (at .loop .n) i 0 (getD row i 0) (at .loop .inv) (search needs)
+    (sym (getD-take k row i 0 (search needs))) (c .before .before .fold .ensures)
 
-returns : tie.Need-returns Inv-loop μ-loop
-returns c =
+same-length : tie.Need-same-length Inv-loop μ-loop
+same-length c = c .before .loop .inv .size ∙ sym (c .before .before .before .before .before .before .before .before .if1 .left)
+
+returns-2 : tie.Need-returns-2 Inv-loop μ-loop
+returns-2 c =
     let at = c .before in
-    let start = at .before .before .before .before .before in
+    let start = at .before .before .before .before .before .before .before .before .before .before in
     let count = length-most (start .args .k) 8 _ (start .args .t3) (search needs) (at .before .least2 .ensures) in
-    table _ _ (at .loop .n) (at .loop .inv .size) (at .loop .inv .within)
-    (all-fixed _ _ _ _ _ (at .loop .i) (at .loop .inv) (search needs))
+    let front = table _ _ (at .loop .n) (at .loop .inv .size) (at .loop .inv .within)
+    (all-fixed _ _ _ _ _ (at .loop .i) (at .loop .inv) (search needs)) in
+    record { whole = λ _. front; other = λ other. absurd (other (at .before .before .before .before .before .before .before .if1 .left)) }
 
 pub folded-spec : {M : Type 1} → statement M
 folded-spec =
@@ -86,11 +97,12 @@ folded-spec =
     (tie.spec
     Inv-loop
     μ-loop
-    placed-requires
+    returns
+    put-requires
     least-requires
     least-requires-2
     loop-holds
-    array-borrow-prefix-table
+    slice-relend-prefix-fold
     slice-aggregate-fold
     mul-fold
     array-read-fold
@@ -98,4 +110,5 @@ folded-spec =
     add-i
     loop-less
     loop-again
-    returns)
+    same-length
+    returns-2)

@@ -3,9 +3,9 @@
 use borrow.Author.Needs.{needs}
 use Prim.Native.Nat.{_-_, _*_}
 use native.Mathlib.Omega.{arith}
-use mathlib.Core.Path.{_≡_, refl, sym}
-use lib.ListN.{length, take, getD, length-take}
-use lib.Seq.{length-take-le, getD-take}
+use mathlib.Core.Path.{_≡_, refl, sym, _∙_}
+use lib.ListN.{length, take, getD, length-take, length-set}
+use lib.Seq.{length-take-le, getD-take, take-suc-set}
 use Rattle.lists.proofs.Parts.{length-most}
 use Rattle.field.specs.Modulus.{numbers}
 use Rattle.tables.proofs.Front.{table}
@@ -14,25 +14,30 @@ use Rattle.tables.proofs.weights.Statement.{statement}
 use Rattle.tables.proofs.weights.Tie as tie
 
 abbrev Inv-loop : tie.InvT-loop
-Inv-loop f k row table₀ n₀ left₀ table n left = Weighed (numbers f) (take k row) table n left
+Inv-loop f k table₀ row n₀ left₀ table n left = Weighed (numbers f) (take k row) table n left
 
 abbrev μ-loop : tie.MeasureT-loop
-μ-loop f k row table₀ n₀ left₀ table n left = left
+μ-loop f k table₀ row n₀ left₀ table n left = left
 
-array-write-table : tie.Need-array-write-table Inv-loop μ-loop
-array-write-table c = search needs
+returns : tie.Need-returns Inv-loop μ-loop
+returns c = record { whole = λ e. absurd (c .if1 .taken e); other = λ _. refl }
+
+slice-write-table : tie.Need-slice-write-table Inv-loop μ-loop
+slice-write-table c = search needs
 
 least-requires : tie.Need-least-requires Inv-loop μ-loop
 least-requires c κs = search needs
 
 loop-holds : tie.Need-loop-holds Inv-loop μ-loop
 loop-holds c =
-    let start = c .before in
+    let start = c .before .before .before in
     let k = start .args .k in
     let row = start .args .t2 in
     let least = c .least .ensures in
     let count : c .least .result ≡ length (take k row) = length-most k 8 _ row (search needs) least in
-    none-weighed _ _ _ (c .least .result) (omega arith) count refl refl
+    let table = start .args .table .now in
+    let size = c .before .if1 .left in
+    none-weighed _ _ _ (c .least .result) (omega arith) count (length-set table 0 _ ∙ size) (take-suc-set table 0 _ (omega arith))
 
 sub-left : tie.Need-sub-left Inv-loop μ-loop
 sub-left c = search needs
@@ -43,8 +48,8 @@ mul-n c =
     let fits = room _ _ _ (at .loop .n) (at .loop .left) (at .loop .inv) (search needs) in
     search needs
 
-array-borrow-prefix-table : tie.Need-array-borrow-prefix-table Inv-loop μ-loop
-array-borrow-prefix-table c =
+slice-relend-prefix-spread : tie.Need-slice-relend-prefix-spread Inv-loop μ-loop
+slice-relend-prefix-spread c =
     let at = c .before in
     let fits = room _ _ _ (at .loop .n) (at .loop .left) (at .loop .inv) (search needs) in
     search needs
@@ -69,20 +74,24 @@ loop-less c = search needs
 
 loop-again : tie.Need-loop-again Inv-loop μ-loop
 loop-again c =
-    let at = c .before .before .before .before in
-    let start = at .before .before in
+    let at = c .before .before .before .before .before in
+    let start = at .before .before .before .before in
     let row = start .args .t2 in
     let k = start .args .k in
     let left = at .loop .left in
-    weigh-next _ _ (at .loop .table) (c .before .spread .last .1 .0) (at .loop .n) left 0 (getD row (left - 1) 0) (at .loop .inv) (search needs)
-    (sym (getD-take k row (left - 1) 0 (omega (arith, length-take k row, at .loop .inv .reached)))) (c .before .spread .ensures)
+    weigh-next _ _ (at .loop .table) (c .before .before .spread .last .1 .0) (at .loop .n) left 0 (getD row (left - 1) 0) (at .loop .inv) (search needs)
+    (sym (getD-take k row (left - 1) 0 (omega (arith, length-take k row, at .loop .inv .reached)))) (c .before .before .spread .ensures)
 
-returns : tie.Need-returns Inv-loop μ-loop
-returns c =
+same-length : tie.Need-same-length Inv-loop μ-loop
+same-length c = c .before .loop .inv .size ∙ sym (c .before .before .before .if1 .left)
+
+returns-2 : tie.Need-returns-2 Inv-loop μ-loop
+returns-2 c =
     let at = c .before in
     let few = at .loop .inv .few in
-    table _ _ (at .loop .n) (at .loop .inv .size) (few-weights _ _ _ _ (at .loop .left) 8 (at .loop .inv) (omega arith))
-    (all-weighed _ _ _ _ (at .loop .left) (at .loop .inv) (search needs))
+    let front = table _ _ (at .loop .n) (at .loop .inv .size) (few-weights _ _ _ _ (at .loop .left) 8 (at .loop .inv) (omega arith))
+    (all-weighed _ _ _ _ (at .loop .left) (at .loop .inv) (search needs)) in
+    record { whole = λ _. front; other = λ other. absurd (other (at .before .before .if1 .left)) }
 
 pub weights-spec : {M : Type 1} → statement M
 weights-spec =
@@ -90,16 +99,18 @@ weights-spec =
     (tie.spec
     Inv-loop
     μ-loop
-    array-write-table
+    returns
+    slice-write-table
     least-requires
     loop-holds
     sub-left
     mul-n
-    array-borrow-prefix-table
+    slice-relend-prefix-spread
     slice-aggregate-spread
     mul-spread
     array-read-spread
     spread-requires
     loop-less
     loop-again
-    returns)
+    same-length
+    returns-2)
