@@ -6,6 +6,7 @@ Expected transcripts come from the literal reading of the specification in make_
 import os
 import pathlib
 import re
+import shutil
 import subprocess
 import tempfile
 import unittest
@@ -94,7 +95,10 @@ class Job(unittest.TestCase):
         sums = [[1, 2 * i, 2 * i + 1] for width in (1, 2, 4) for i in range(width)]
         products = [[2, 2 * i, 2 * i + 1] for i in range(8)]
         circuit = [LARGE_PRIME, 4, 1, 2, 3, 4] + sum(sums + products, [])
-        return make_cases.printed(make_cases.arrays(circuit, words, coins))
+        text = make_cases.text_line("claim", make_cases.values_of(circuit, words)[0])
+        for (layer, turn), message in zip(make_cases.places(circuit), make_cases.honest(circuit, words, coins)):
+            text += make_cases.text_line("line" if turn == 2 * make_cases.exponent(circuit, layer) else "sum", message)
+        return text
 
     def test_drawn_coins(self):
         drawn = []
@@ -154,6 +158,23 @@ class Job(unittest.TestCase):
             ran = job(*arguments, env={**os.environ, "PATH": f"{self.folder}:{os.environ['PATH']}"})
             self.assertEqual((ran.stderr, ran.returncode), ("not proved\nrt check failed with exit status 1\n", 3))
             self.assertNotIn("released", ran.stdout)
+
+    def test_only_the_whole_answer_releases(self):
+        """With stand-ins for the programs, of which verdict answers something else than accepted or a refusal."""
+        for name in ("job", "tools/textform.py", "examples/worked/circuit.txt", "examples/worked/input.txt", "examples/worked/coins.txt"):
+            (self.folder / name).parent.mkdir(parents=True, exist_ok=True)
+            shutil.copy(ROOT / name, self.folder / name)
+        (self.folder / "target" / "bin").mkdir(parents=True)
+        for name, text in (("rt", ""), ("target/bin/evaluate", "echo output 2"), ("target/bin/transcript", "echo claim 2")):
+            self.file(name, f"#!/bin/sh\n{text}\n").chmod(0o755)
+        for text, status in (("echo accepted", 0), ("echo refused 16", 1), ("", 3), ("printf accepted", 3), ("echo accepted 2", 3),
+                             ("echo Accepted", 3), ("echo refused", 3), ("echo refused 21", 3), ("echo accepted; exit 1", 3),
+                             ("echo accepted; echo refused 16", 3), ("echo accepted; kill -9 $$", 3)):
+            self.file("target/bin/verdict", f"#!/bin/sh\ncat > /dev/null\n{text}\n").chmod(0o755)
+            ran = subprocess.run([self.folder / "job", WORKED / "circuit.txt", WORKED / "input.txt", "--coins", WORKED / "coins.txt"],
+                                 capture_output=True, text=True, env={**os.environ, "PATH": f"{self.folder}:{os.environ['PATH']}"})
+            self.assertEqual(ran.returncode, status, (text, ran))
+            self.assertEqual("output 2 is released" in ran.stdout, status == 0, text)
 
 
 if __name__ == "__main__":
