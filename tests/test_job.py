@@ -110,6 +110,18 @@ class Job(unittest.TestCase):
             self.assertLess(max(drawn[-1]), LARGE_PRIME)
         self.assertNotEqual(*drawn)
 
+    def test_a_prime_too_small_for_the_bound(self):
+        for exponents, inputs, told in (("2", "1 2 3 4", "at most 10 of every 13 coin lists"),
+                                        ("3", "1 2 3 4 5 6 7 8", "The prime 13 is too small for this circuit")):
+            ran = job(self.file("circuit.txt", f"prime 13\nexponents {exponents}\nlayer 0\nmul 0 1\n"), self.file("input.txt", inputs))
+            self.assertEqual((ran.stderr, ran.returncode), ("", 0))
+            self.assertIn(told, ran.stdout)
+
+    def test_a_long_list_is_shown_in_part(self):
+        ran = job(WORKED / "circuit.txt", self.file("input.txt", "7 " * 8 * 50))
+        self.refused(ran, 8, "input")
+        self.assertEqual(block(ran.stdout, "Input"), 40 * "7 7 7 7 7 7 7 7\n" + "... and 10 lines more\n")
+
     def test_a_false_total(self):
         ran = job(INVOICE / "circuit.txt", INVOICE / "input.txt", "--coins", INVOICE / "coins.txt")
         lines = block(ran.stdout, "Transcript").splitlines()

@@ -5,6 +5,7 @@ Bytes are compared with those of xdrlib, Python's own encoder for RFC 4506 (in P
 """
 import pathlib
 import random
+import signal
 import subprocess
 import sys
 import tempfile
@@ -198,6 +199,19 @@ class Bytes(unittest.TestCase):
             ran = tool("show", stdin=data)
             self.assertEqual((ran.stdout, ran.returncode), (b"", 2), data)
             self.assertTrue(ran.stderr.startswith(f"standard input, byte {place}: found ".encode()), ran.stderr)
+
+    def test_an_array_that_is_not_there(self):
+        ran = tool("show", "coins", stdin=packed([1], [2]))
+        self.assertEqual((ran.stdout, ran.stderr, ran.returncode), (b"", b"standard input: found 2 arrays, expected one for coins\n", 2))
+
+    def test_a_reader_that_stops_early(self):
+        with tempfile.TemporaryDirectory() as folder:
+            circuit = pathlib.Path(folder, "circuit")
+            circuit.write_text(textform.raw_text([0] * 100000))
+            ran = subprocess.Popen([ROOT / "tools" / "words", "circuit", circuit], stdout=subprocess.PIPE, stderr=subprocess.PIPE)
+            ran.stdout.close()
+            self.assertEqual((ran.stderr.read(), ran.wait()), (b"", -signal.SIGPIPE))
+            ran.stderr.close()
 
 
 class RoundTrips(unittest.TestCase):
