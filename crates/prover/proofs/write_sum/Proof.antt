@@ -27,44 +27,28 @@ of-requires c κs = search needs
 
 mul-sum-message : tie.Need-mul-sum-message
 mul-sum-message c =
-    let own = c .before .before .before .before .before in
-    let start = own .before .before .before .before .before in
-    let l = start .args .circuit .now in
-    let past = start .args .past .now in
-    let t = own .at-round .ensures (start .pre .0 .there) in
+    let t = c .before .before .before .before .before .at-round .ensures .0 in
     let ordered = t .ordered in
     let inside = t .inside in
     search needs
 
 sub-sum-message : tie.Need-sub-sum-message
 sub-sum-message c =
-    let own = c .before .before .before .before .before in
-    let start = own .before .before .before .before .before in
-    let l = start .args .circuit .now in
-    let past = start .args .past .now in
-    let t = own .at-round .ensures (start .pre .0 .there) in
+    let t = c .before .before .before .before .before .at-round .ensures .0 in
     let ordered = t .ordered in
     let inside = t .inside in
     search needs
 
 part-sum-message-start : tie.Need-part-sum-message-start
 part-sum-message-start c =
-    let own = c .before .before .before .before .before in
-    let start = own .before .before .before .before .before in
-    let l = start .args .circuit .now in
-    let past = start .args .past .now in
-    let t = own .at-round .ensures (start .pre .0 .there) in
+    let t = c .before .before .before .before .before .at-round .ensures .0 in
     let ordered = t .ordered in
     let inside = t .inside in
     search needs
 
 part-sum-message-end : tie.Need-part-sum-message-end
 part-sum-message-end c =
-    let own = c .before .before .before .before .before in
-    let start = own .before .before .before .before .before in
-    let l = start .args .circuit .now in
-    let past = start .args .past .now in
-    let t = own .at-round .ensures (start .pre .0 .there) in
+    let t = c .before .before .before .before .before .at-round .ensures .0 in
     let ordered = t .ordered in
     let inside = t .inside in
     search needs
@@ -87,7 +71,7 @@ returns c =
     let start = own .before .before .before .before .before in
     let l = start .args .circuit .now in
     let past = start .args .past .now in
-    let t = own .at-round .ensures (start .pre .0 .there) in
+    let t = own .at-round .ensures .1 (start .pre .0 .there) in
     let vs = start .args .values .now in
     let st = own .at-round .result in
     let nl = start .pre .1 in
