@@ -9,7 +9,7 @@ use Rattle.algebra.specs.Numbers.{words}
 use Rattle.algebra.specs.Polynomial.{valueAt}
 use Rattle.refusal.specs.Number.{causeOf}
 use Rattle.circuit.proofs.Layers.{prime-modulus}
-use Rattle.session.proofs.Records.{own-start, legal, own, long}
+use Rattle.session.proofs.Records.{own-start, legal, long}
 use Rattle.session.proofs.Coming.{coins-few, coin-inside, at-round, refused-open, passed-open}
 use borrow.Author.Needs.{needs}
 use Rattle.session.proofs.step_open.Statement.{statement}

@@ -42,7 +42,7 @@ use Rattle.standing.specs.declared.Stand.{Stand}
 use Rattle.standing.proofs.Gates.{gates-at}
 use Rattle.standing.proofs.Lengths.{length-of-line, length-of-sum}
 use Rattle.standing.proofs.Rounds.{own-small, own-coins, point-size, above-point}
-use Rattle.prover.specs.Writing.{Writable}
+use Rattle.messages.specs.Writing.{Writable}
 
 -- the front of a computed row, put over a buffer that holds it
 pub written : (words buffer after m : List ℕ) (n : ℕ) → n ≤ length buffer → take n words ≡ m
@@ -130,12 +130,6 @@ module _ (c : List ℕ) (layer round : ℕ) (past vs buffer : List ℕ) (h : Wri
           ap (λ (b : Bool). length (cond {A = List ℕ} b (lineMessage N vs (take k xs) (drop k xs)) (sumMessage N k (gatesAbove c layer) (pointAt c layer past) vs xs))) e
           ∙ sum-message-words (primeOf c) pos k (gatesAbove c layer) (pointAt c layer past) vs xs .0 ∙ length-of-sum c (place layer round) e
 
-  -- a row with a message at its front has as many words
-  pub row-fits : (row : List ℕ) (n : ℕ) → n ≡ messageLength c (place layer round) → take n row ≡ messageFrom c vs (place layer round) past → n ≤ length row
-  row-fits row n en e =
-      let size : length (take n row) ≡ n = ap length e ∙ message-size ∙ sym en in
-      omega (arith, size, length-take n row)
-
   pub sum-written : (ws after : List ℕ) → ws ≡ messageFrom c vs (place layer round) past → after ≡ over (take (length buffer) ws) buffer
       → after ≡ over (messageFrom c vs (place layer round) past) buffer
   sum-written ws after e put =
@@ -189,9 +183,3 @@ module _ (c : List ℕ) (layer round : ℕ) (past vs buffer : List ℕ) (h : Wri
         take-front (lineHalving N vs (take k xs) (drop k xs)) _ r n (e ∙ ap₂ (λ (a b : List ℕ). padded (lineHalving N vs a b)) u v) count
         ∙ line-by-halves (primeOf c) prime vs (take k xs) (drop k xs) same (let p = least in omega (arith, wide-u)) (h .sized ∙ ap (λ (m : ℕ). 2 ^ m) (sym wide-u)) (h .residues)
         ∙ sym (ap (λ (b : Bool). cond b (lineMessage N vs (take k xs) (drop k xs)) (sumMessage N k (gatesAbove c layer) (pointAt c layer past) vs xs)) il)
-
-    -- the words of a message are there
-    pub line-room : (n : ℕ) → isLine c (place layer round) ≡ true → n ≡ messageLength c (place layer round) → n ≤ maxExponent + 1
-    line-room n il en =
-        let small : exponentAt c layer ≤ maxExponent = own-small c layer round past here in
-        omega (arith, en, length-of-line c (place layer round) il)
