@@ -10,7 +10,7 @@ use native.Mathlib.Decide.{decLe}
 use lib.ListN.{length, take, drop, getD, length-append, length-map, length-drop, List·getD-append}
 use lib.Seq.{length-take-le, getD-take, getD-drop, getD-append-add}
 use Rattle.lists.proofs.Map.{map-append, getD-map-lt}
-use Rattle.algebra.specs.Numbers.{Numbers, words}
+use Rattle.algebra.specs.Numbers.{Numbers}
 use Rattle.algebra.specs.Hom.{Hom}
 use Rattle.algebra.proofs.Hom.{hom-sub, hom-mul}
 use Rattle.multilinear.specs.Extension.{bits, weightOfBits, weight, between, corner, blend, fold}
