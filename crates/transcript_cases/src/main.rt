@@ -13,6 +13,6 @@ fn main() {
         if count == 0 {
             break;
         }
-        printing::print_transcript(cases::part(&bytes[..count], 0));
+        transcript_text::print_transcript(cases::part(&bytes[..count], 0));
     }
 }

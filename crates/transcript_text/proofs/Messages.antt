@@ -19,7 +19,7 @@ use Rattle.standing.proofs.Loops as loops
 use Rattle.text.specs.Lines.{lineText}
 use Rattle.text.specs.Wrote.{Wrote}
 use Rattle.text.proofs.Writing.{wrote-none, wrote-more, wrote-as}
-use Rattle.printing.specs.Printed.{wordOf, messagesText}
+use Rattle.transcript_text.specs.Transcript.{wordOf, messagesText}
 
 module _ (c ms before : List ℕ) where
   -- after `at` message words and `to` bytes, with these rounds left

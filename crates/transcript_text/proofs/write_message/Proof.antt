@@ -5,8 +5,8 @@ use mathlib.Core.Bool.{Bool, cond}
 use borrow.Author.Needs.{needs}
 use Rattle.text.specs.Lines.{ascii, lineText}
 use Rattle.text.proofs.Writing.{wrote-as}
-use Rattle.printing.proofs.write_message.Statement.{statement}
-use Rattle.printing.proofs.write_message.Tie as tie
+use Rattle.transcript_text.proofs.write_message.Statement.{statement}
+use Rattle.transcript_text.proofs.write_message.Tie as tie
 
 is-line-requires : tie.Need-is-line-requires
 is-line-requires c κs = search needs

@@ -7,9 +7,9 @@ use native.Mathlib.Omega.{arith}
 use borrow.Author.Needs.{needs}
 use Rattle.circuit.specs.Circuit.{depth, exponentAt}
 use Rattle.text.proofs.Writing.{wrote-within, wrote-room, wrote-length, wrote-more}
-use Rattle.printing.proofs.Messages.{BeforeLayer, BeforeRound, lines-start, layer-starts, layer-ends, lines-end, words-there, round-done}
-use Rattle.printing.proofs.write_messages.Statement.{statement}
-use Rattle.printing.proofs.write_messages.Tie as tie
+use Rattle.transcript_text.proofs.Messages.{BeforeLayer, BeforeRound, lines-start, layer-starts, layer-ends, lines-end, words-there, round-done}
+use Rattle.transcript_text.proofs.write_messages.Statement.{statement}
+use Rattle.transcript_text.proofs.write_messages.Tie as tie
 
 abbrev Inv-loop2 : tie.InvT-loop2
 Inv-loop2 circuit messages text₀ at₀ to₀ layer round₀ layer-end round-end text at to round =

@@ -2,26 +2,20 @@
 -- Assumes nothing.
 use Prim.Native.Nat.{ℕ, zero, suc, _≤_}
 use mathlib.Core.Path.{_≡_, refl}
-use mathlib.Core.Bool.{Bool, true, false, cond}
-use mathlib.Core.Option.{Option, none, some}
 use mathlib.Core.List.{List, [], _∷_}
 use native.Mathlib.Omega.{arith}
-use lib.Dec.{leb}
 use lib.ListN.{length, getD, length-append}
-use Rattle.xdr.specs.Read.{called}
 use Rattle.circuit.specs.Values.{value}
 use Rattle.protocol.specs.Rounds.{rounds}
 use Rattle.protocol.specs.Prove.{honest, transcript}
 use Rattle.text.specs.Lines.{ascii}
 use Rattle.text.proofs.Lengths.{line-short}
-use Rattle.printing.specs.Limits.{maxBytes, maxText}
-use Rattle.printing.specs.Printed.{refusedText, answerText, listsRefusal, listsText, arraysText, transcriptText}
-use Rattle.printing.proofs.Limits.{rounds-few, words-few, messages-short}
-use Rattle.printing.proofs.Answers.{provable}
-
-refused-short : (n : ℕ) → length (refusedText n) ≤ maxText
-unfolding refusedText
-refused-short n = omega (arith, line-short (ascii "refused") (n ∷ []))
+use Rattle.printing.specs.Input.{given}
+use Rattle.printing.proofs.Lengths.{refused-short, printed-short}
+use Rattle.transcript_text.specs.Limits.{maxText}
+use Rattle.transcript_text.specs.Transcript.{answerText, listsRefusal, listsText, transcriptText}
+use Rattle.transcript_text.proofs.Limits.{rounds-few, words-few, messages-short}
+use Rattle.transcript_text.proofs.Answers.{provable}
 
 lists-short : (c input cs : List ℕ) → length (listsText c input cs) ≤ maxText
 unfolding listsText
@@ -33,13 +27,8 @@ lists-short c input cs = go (listsRefusal c input cs) refl
         let ms : List ℕ = transcript c input (honest c input) cs in
         rw length-append
         (omega (arith, line-short (ascii "claim") (value c input ∷ []), messages-short c (rounds c) ms, p .words, rounds-few c (p .legal), words-few c (p .legal)))
-    go (suc n) e = refused-short (suc n)
+    go (suc n) e = omega (arith, refused-short (suc n))
 
 pub transcript-short : (bytes : List ℕ) → length (transcriptText bytes) ≤ maxText
-unfolding transcriptText arraysText
-transcript-short bytes = go (leb (length bytes) maxBytes) (called 3 bytes)
-  where
-    go : (b : Bool) (found : Option (List (List ℕ))) → length (cond b (arraysText found) (refusedText 20)) ≤ maxText
-    go true none = refused-short 20
-    go true (some ls) = lists-short (getD ls 0 []) (getD ls 1 []) (getD ls 2 [])
-    go false found = refused-short 20
+unfolding transcriptText
+transcript-short bytes = printed-short _ maxText (omega arith) (λ ls. lists-short (getD ls 0 []) (getD ls 1 []) (getD ls 2 [])) (given 3 bytes)

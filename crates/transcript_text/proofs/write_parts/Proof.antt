@@ -7,9 +7,9 @@ use lib.ListN.{take, drop}
 use lib.Seq.{length-take-le}
 use borrow.Author.Needs.{needs}
 use Rattle.text.proofs.Writing.{wrote-as}
-use Rattle.printing.specs.Printed.{listsText}
-use Rattle.printing.proofs.write_parts.Statement.{statement}
-use Rattle.printing.proofs.write_parts.Tie as tie
+use Rattle.transcript_text.specs.Transcript.{listsText}
+use Rattle.transcript_text.proofs.write_parts.Statement.{statement}
+use Rattle.transcript_text.proofs.write_parts.Tie as tie
 
 add-coins : tie.Need-add-coins
 add-coins c = search needs

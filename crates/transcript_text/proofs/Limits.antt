@@ -20,7 +20,7 @@ use Rattle.protocol.specs.Judge.{messageLength}
 use Rattle.protocol.proofs.Rounds.{as-many}
 use Rattle.text.specs.Lines.{ascii}
 use Rattle.text.proofs.Lengths.{line-short}
-use Rattle.printing.specs.Printed.{wordOf, messagesText}
+use Rattle.transcript_text.specs.Transcript.{wordOf, messagesText}
 
 times-le : (a k : ℕ) → k ≤ maxExponent → a * k ≤ a * maxExponent
 times-le a k h = mul-le-mul-left a h

@@ -22,8 +22,9 @@ use Rattle.protocol.specs.Check.{needCoins}
 use Rattle.protocol.specs.Prove.{proved, refused, proofOf, honest, transcript, proveCause, proveAnswer, proveBuffer}
 use Rattle.protocol.proofs.Check.{length-transcript}
 use Rattle.protocol.proofs.Theorems.{honest-fits}
-use Rattle.printing.specs.Printed.{proofText, answerText, refusedText, listsRefusal, listsText}
-use Rattle.printing.proofs.Limits.{words-few}
+use Rattle.printing.specs.Printed.{refusedText}
+use Rattle.transcript_text.specs.Transcript.{proofText, answerText, listsRefusal, listsText}
+use Rattle.transcript_text.proofs.Limits.{words-few}
 
 module _ (c input cs : List ℕ) where
   abbrev ms : List ℕ

@@ -2,8 +2,8 @@
 -- Assumes nothing.
 use borrow.Author.Needs.{needs}
 use Rattle.text.proofs.Writing.{wrote-room, wrote-within, wrote-more}
-use Rattle.printing.proofs.write_proof.Statement.{statement}
-use Rattle.printing.proofs.write_proof.Tie as tie
+use Rattle.transcript_text.proofs.write_proof.Statement.{statement}
+use Rattle.transcript_text.proofs.write_proof.Tie as tie
 
 slice-aggregate-put-line : tie.Need-slice-aggregate-put-line
 slice-aggregate-put-line c = search needs

@@ -5,9 +5,9 @@ use native.Mathlib.Omega.{arith}
 use lib.Seq.{length-take-le}
 use borrow.Author.Needs.{needs}
 use Rattle.text.proofs.Writing.{wrote-within, wrote-whole}
-use Rattle.printing.proofs.Length.{transcript-short}
-use Rattle.printing.proofs.print_transcript.Statement.{statement}
-use Rattle.printing.proofs.print_transcript.Tie as tie
+use Rattle.transcript_text.proofs.Length.{transcript-short}
+use Rattle.transcript_text.proofs.print_transcript.Statement.{statement}
+use Rattle.transcript_text.proofs.print_transcript.Tie as tie
 
 slice-aggregate-write-transcript : tie.Need-slice-aggregate-write-transcript
 slice-aggregate-write-transcript c = search needs

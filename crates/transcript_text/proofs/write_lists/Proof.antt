@@ -6,9 +6,9 @@ use lib.Seq.{length-take-le}
 use borrow.Author.Needs.{needs}
 use Rattle.prover.specs.Answers.{provedOf}
 use Rattle.text.proofs.Writing.{wrote-as}
-use Rattle.printing.proofs.Answers.{printed-refused, printed-proved}
-use Rattle.printing.proofs.write_lists.Statement.{statement}
-use Rattle.printing.proofs.write_lists.Tie as tie
+use Rattle.transcript_text.proofs.Answers.{printed-refused, printed-proved}
+use Rattle.transcript_text.proofs.write_lists.Statement.{statement}
+use Rattle.transcript_text.proofs.write_lists.Tie as tie
 
 slice-aggregate-prove : tie.Need-slice-aggregate-prove
 slice-aggregate-prove c = search needs
