@@ -4,8 +4,8 @@ use Prim.Native.Nat.{_-_, _≤_}
 use mathlib.Core.Path.{_≡_}
 use lib.ListN.{length}
 use borrow.Author.Needs.{needs}
-use Rattle.transcript_cases.proofs.main.Statement.{statement}
-use Rattle.transcript_cases.proofs.main.Tie as tie
+use Rattle.cases_programs.proofs.main.Statement.{statement}
+use Rattle.cases_programs.proofs.main.Tie as tie
 
 abbrev Inv-loop : tie.InvT-loop
 Inv-loop bytes₀ counter₀ bytes counter = (counter ≤ 65536) × (131072 ≡ length bytes)
@@ -25,14 +25,11 @@ next-requires c κs = search needs
 array-share-prefix-bytes : tie.Need-array-share-prefix-bytes Inv-loop μ-loop
 array-share-prefix-bytes c = search needs
 
-slice-aggregate-part : tie.Need-slice-aggregate-part Inv-loop μ-loop
-slice-aggregate-part c = search needs
+slice-aggregate-run : tie.Need-slice-aggregate-run Inv-loop μ-loop
+slice-aggregate-run c = search needs
 
-part-requires : tie.Need-part-requires Inv-loop μ-loop
-part-requires c κs = search needs
-
-print-transcript-requires : tie.Need-print-transcript-requires Inv-loop μ-loop
-print-transcript-requires c κs = search needs
+run-requires : tie.Need-run-requires Inv-loop μ-loop
+run-requires c κs = search needs
 
 add-counter : tie.Need-add-counter Inv-loop μ-loop
 add-counter c = search needs
@@ -59,9 +56,8 @@ main-spec =
     slice-aggregate-next
     next-requires
     array-share-prefix-bytes
-    slice-aggregate-part
-    part-requires
-    print-transcript-requires
+    slice-aggregate-run
+    run-requires
     add-counter
     loop-less
     loop-again
