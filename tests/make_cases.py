@@ -9,9 +9,9 @@ record as it is before the call, the expected answer, and the buffer or record a
 that shares nothing with this repository. Cases of other operations are passed over.
 
 Cases at the edges are added. Their answers come from the functions load, evaluate, read, check, opening, step, prove, prove_one and
-printed below, which follow the specification word by word; they must first give the answer of every case in VECTORS. No answer comes from
-a program of this repository. VECTORS has no case of the programs verdict and evaluate: theirs come from check, values_of and lists_cause. Some cases more are counts: on how many of all coin lists the messages of C7 are accepted, those of the
-prover, and those of the best rule for each output.
+printed below, which follow the specification word by word; they must first give the answer of every case in VECTORS, which has none of the
+programs verdict and evaluate. No answer comes from a program of this repository. Some cases more are counts: on how many of all coin lists
+the messages of C7 are accepted, those of the prover, and those of the best rule for each output.
 
 The form of a case stands at the top of each program, that of a printed buffer in the crate cases.
 """

@@ -1,7 +1,7 @@
 // Prints what a program prints for each of many inputs, which is compared with what an independent implementation prints.
 //
-// Standard input is a list of cases, and nothing else. A part is its length in bytes, one word of four bytes, high byte first, and then that
-// many bytes. A case is a part, which holds
+// Standard input is a list of cases, and nothing else. A part is its length in bytes, one word of four bytes, high byte first, and then
+// that many bytes. A case is a part, which holds
 //     the program's number, a word: 1 transcript, 2 verdict, 3 evaluate
 //     the program's input, a part
 const MAX_CASES: usize = 65536;

@@ -1,5 +1,5 @@
--- What is printed for lists, from what an evaluation answers, whose buffer of 4,097 words is never too short; and for bytes from the lists that
--- were read from them. No text is longer than the line of a refusal.
+-- What is printed for lists, from what an evaluation answers, whose buffer of 4,097 words is never too short; and for bytes, from the
+-- lists that were read from them. No text is longer than the line of a refusal.
 -- Assumes nothing.
 use Prim.Native.Nat.{ℕ, zero, suc, _≤_}
 use mathlib.Core.Path.{_≡_, refl, ap, _∙_}
@@ -72,7 +72,10 @@ answer-short : (n y : ℕ) → length (answerText n y) ≤ maxLine
 answer-short zero y = omega (arith, line-short (ascii "output") (y ∷ []))
 answer-short (suc n) y = refused-short (suc n)
 
+lists-short : (c input : List ℕ) → length (listsText c input) ≤ maxLine
+unfolding listsText
+lists-short c input = answer-short (listsCause c input) (value c input)
+
 pub output-short : (bytes : List ℕ) → length (outputText bytes) ≤ maxLine
-unfolding outputText listsText
-output-short bytes =
-    printed-short _ maxLine (omega arith) (λ ls. answer-short (listsCause (getD ls 0 []) (getD ls 1 [])) (value (getD ls 0 []) (getD ls 1 []))) (given 2 bytes)
+unfolding outputText
+output-short bytes = printed-short _ maxLine (omega arith) (λ ls. lists-short (getD ls 0 []) (getD ls 1 [])) (given 2 bytes)

@@ -1,5 +1,5 @@
-// What the program `evaluate` prints: the output of the circuit and input that it reads, or why there is none. The text is written to a buffer
-// first, since no promise can speak of standard output.
+// What the program `evaluate` prints: the output of the circuit and input that it reads, or why there is none. The text is written to a
+// buffer first, since no promise can speak of standard output.
 use evaluation::Evaluated;
 use libc::STDOUT_FILENO;
 use xdr::Arrays;
@@ -28,7 +28,8 @@ fn write_lists(circuit: &[u32], input: &[u32], text: &mut [u8]) -> usize
 // Writes what is printed for the lists that begin these words, so many words each.
 fn write_parts(words: &[u32], first: usize, second: usize, text: &mut [u8]) -> usize
     requires { ⌜ first + second ≤ length (now words) ⌝ }
-    ensures { λ r. ⌜ Wrote (listsText (take first (now (words .entry))) (take second (drop first (now (words .entry))))) (now (text .entry)) (now (text .exit)) r ⌝ }
+    ensures { λ r. ⌜ Wrote (listsText (take first (now (words .entry))) (take second (drop first (now (words .entry)))))
+        (now (text .entry)) (now (text .exit)) r ⌝ }
 {
     let end = first + second;
     write_lists(&words[..first], &words[first..end], text)

@@ -50,7 +50,8 @@ module _ (x y z w t l : List ℕ) (e : l ≡ x ++ (y ++ (z ++ (w ++ t)))) where
 
   four-inside : length x + length y + length z + length w ≤ length l
   four-inside =
-      omega (arith, ap length e, length-append x (y ++ (z ++ (w ++ t))), length-append y (z ++ (w ++ t)), length-append z (w ++ t), length-append w t)
+      let two = length-append y (z ++ (w ++ t)) in
+      omega (arith, ap length e, length-append x (y ++ (z ++ (w ++ t))), two, length-append z (w ++ t), length-append w t)
 
 -- no more than four lists, one after another
 flat : (ls : List (List ℕ)) → length ls ≤ 4 → flatten ls ≡ getD ls 0 [] ++ (getD ls 1 [] ++ (getD ls 2 [] ++ getD ls 3 []))
@@ -66,7 +67,8 @@ at-most-four : (n : ℕ) (bytes : List ℕ) (ls : List (List ℕ)) → given n b
 unfolding given called
 at-most-four n bytes ls e = go (leb (length bytes) maxBytes) (leb 1 n) (leb n 4) refl e
   where
-    go : (short some-called few : Bool) → leb n 4 ≡ few → cond short (cond (some-called && few) (arrays n bytes) none) none ≡ some ls → length ls ≤ 4
+    go : (short some-called few : Bool) → leb n 4 ≡ few → cond short (cond (some-called && few) (arrays n bytes) none) none ≡ some ls
+        → length ls ≤ 4
     go true true true f e = omega (arith, leb-true n 4 f, length-arrays n bytes ls e)
     go true true false f e = absurd (let z : _≡_ {A = ℕ} 0 1 = cc in omega arith)
     go true false few f e = absurd (let z : _≡_ {A = ℕ} 0 1 = cc in omega arith)
@@ -83,8 +85,8 @@ pub record Parts (found : Option (List (List ℕ))) (a b c d : ℕ) (words : Lis
   pub third : take c (drop (a + b) words) ≡ getD lists 2 []
   pub fourth : take d (drop (a + b + c) words) ≡ getD lists 3 []
 
-pub parts : (n : ℕ) (bytes buffer : List ℕ) → length buffer ≡ 16384 → (a b c d : ℕ) (words : List ℕ) → counts a b c d ≡ countsOf (given n bytes)
-    → words ≡ over (wordsOf (given n bytes)) buffer → Parts (given n bytes) a b c d words
+pub parts : (n : ℕ) (bytes buffer : List ℕ) → length buffer ≡ 16384 → (a b c d : ℕ) (words : List ℕ)
+    → counts a b c d ≡ countsOf (given n bytes) → words ≡ over (wordsOf (given n bytes)) buffer → Parts (given n bytes) a b c d words
 unfolding countsOf wordsOf
 parts n bytes buffer room a b c d words ec ew = go (given n bytes) (λ ls e. at-most-four n bytes ls e) (words-fit n bytes buffer) ec ew
   where

@@ -75,19 +75,21 @@ module _ (c input cs : List ℕ) where
       pub words : length (take n after) ≡ messageWords c
       pub text : proofText c y (take n after) ≡ listsText c input cs
 
-    pub printed-proved : (y n : ℕ) (after : List ℕ) → proved y n ≡ proveAnswer c input cs buffer → after ≡ proveBuffer c input cs buffer → Printed y n after
+    pub printed-proved : (y n : ℕ) (after : List ℕ) → proved y n ≡ proveAnswer c input cs buffer → after ≡ proveBuffer c input cs buffer
+        → Printed y n after
     unfolding proveAnswer proveBuffer listsText
     printed-proved y n after e eb = go (listsRefusal c input cs) refl
       where
         go : (k : ℕ) → listsRefusal c input cs ≡ k → Printed y n after
         go zero none =
             let cause : proveCause c input cs buffer ≡ 0 = same-cause ∙ none in
-            let answer : proved y n ≡ proved (value c input) (messageWords c) = e ∙ ap (λ (k : ℕ). proofOf k (value c input) (messageWords c)) cause in
+            let answer : proved y n ≡ proved (value c input) (messageWords c) =
+            e ∙ ap (λ (k : ℕ). proofOf k (value c input) (messageWords c)) cause in
             let output : y ≡ value c input = cc in
             let count : n ≡ messageWords c = cc in
             let p = provable none in
-            let front : take n after ≡ ms =
-            ap₂ (λ (i : ℕ) (l : List ℕ). take i l) (count ∙ sym (p .words)) (eb ∙ ap (λ (k : ℕ). cond (eqb k 0) (over ms buffer) buffer) cause) ∙ take-over ms buffer in
+            let wrote : after ≡ over ms buffer = eb ∙ ap (λ (k : ℕ). cond (eqb k 0) (over ms buffer) buffer) cause in
+            let front : take n after ≡ ms = ap₂ (λ (i : ℕ) (l : List ℕ). take i l) (count ∙ sym (p .words)) wrote ∙ take-over ms buffer in
             let words : length (take n after) ≡ messageWords c = ap length front ∙ p .words in
             record {
               legal = p .legal;
@@ -98,5 +100,6 @@ module _ (c input cs : List ℕ) where
                   ∙ ap (λ (k : ℕ). answerText k c (value c input) ms) (sym none);
             }
         go (suc k) some =
-            let answer : proved y n ≡ refused (suc k) = e ∙ ap (λ (k : ℕ). proofOf k (value c input) (messageWords c)) (same-cause ∙ some) in
+            let answer : proved y n ≡ refused (suc k) =
+            e ∙ ap (λ (k : ℕ). proofOf k (value c input) (messageWords c)) (same-cause ∙ some) in
             absurd (let z : _≡_ {A = ℕ} 0 1 = cc in omega arith)

@@ -25,10 +25,12 @@ lists-short c input cs = go (listsRefusal c input cs) refl
     go zero e =
         let p = provable c input cs e in
         let ms : List ℕ = transcript c input (honest c input) cs in
-        rw length-append
-        (omega (arith, line-short (ascii "claim") (value c input ∷ []), messages-short c (rounds c) ms, p .words, rounds-few c (p .legal), words-few c (p .legal)))
+        let first = line-short (ascii "claim") (value c input ∷ []) in
+        let others = messages-short c (rounds c) ms in
+        rw length-append (omega (arith, first, others, p .words, rounds-few c (p .legal), words-few c (p .legal)))
     go (suc n) e = omega (arith, refused-short (suc n))
 
 pub transcript-short : (bytes : List ℕ) → length (transcriptText bytes) ≤ maxText
 unfolding transcriptText
-transcript-short bytes = printed-short _ maxText (omega arith) (λ ls. lists-short (getD ls 0 []) (getD ls 1 []) (getD ls 2 [])) (given 3 bytes)
+transcript-short bytes =
+    printed-short _ maxText (omega arith) (λ ls. lists-short (getD ls 0 []) (getD ls 1 []) (getD ls 2 [])) (given 3 bytes)

@@ -42,12 +42,20 @@ module _ (c ms before : List ℕ) where
     pub lines-start : length ms ≡ messageWords c → BeforeLayer before 0 0 1
     lines-start e = record {
       coins = 0;
-      stands = loops.loops-start c legal (Left before 0 0) (record { done = []; wrote = wrote-none before; whole = refl; counted = zero-add (sum (map (messageLength c) (rounds c))) ∙ message-words c ∙ sym e });
+      stands =
+          loops.loops-start c legal (Left before 0 0)
+          (record {
+            done = [];
+            wrote = wrote-none before;
+            whole = refl;
+            counted = zero-add (sum (map (messageLength c) (rounds c))) ∙ message-words c ∙ sym e;
+          });
     }
 
     module _ (text : List ℕ) (at to layer : ℕ) where
       pub layer-starts : BeforeLayer text at to layer → layer ≤ depth c → BeforeRound text at to layer 0
-      layer-starts b inside = record { coins = b .coins; stands = loops.layer-starts c legal (Left text at to) layer (b .coins) (b .stands) inside }
+      layer-starts b inside =
+          record { coins = b .coins; stands = loops.layer-starts c legal (Left text at to) layer (b .coins) (b .stands) inside }
 
       pub lines-end : BeforeLayer text at to layer → depth c < layer → Wrote (messagesText c (rounds c) ms) before text to
       unfolding messagesText
@@ -57,17 +65,21 @@ module _ (c ms before : List ℕ) where
 
       module _ (round : ℕ) (b : BeforeRound text at to layer round) where
         pub layer-ends : 2 * exponentAt c layer + 1 ≤ round → BeforeLayer text at to (layer + 1)
-        layer-ends done = record { coins = b .coins; stands = loops.layer-ends c legal (Left text at to) layer round (b .coins) (b .stands) done }
+        layer-ends done =
+            record { coins = b .coins; stands = loops.layer-ends c legal (Left text at to) layer round (b .coins) (b .stands) done }
 
         module _ (more : round < 2 * exponentAt c layer + 1) where
           left : Left text at to (place layer round ∷ before-round c layer (round + 1)) (b .coins)
           left = loops.round-opened c legal (Left text at to) layer round (b .coins) (b .stands) more
 
           pub words-there : at + messageLength c (place layer round) ≤ length ms
-          words-there = omega (arith, left .counted, sum-cons (messageLength c (place layer round)) (map (messageLength c) (before-round c layer (round + 1))))
+          words-there =
+              let more = sum-cons (messageLength c (place layer round)) (map (messageLength c) (before-round c layer (round + 1))) in
+              omega (arith, left .counted, more)
 
           pub round-done : (w : ℕ) → w ≡ messageLength c (place layer round) → (part : List ℕ) (n : ℕ)
-              → Wrote (lineText (wordOf c (place layer round)) (take (at + w - at) (drop at ms))) (take (length text - to) (drop to text)) part n
+              → Wrote (lineText (wordOf c (place layer round)) (take (at + w - at) (drop at ms)))
+              (take (length text - to) (drop to text)) part n
               → BeforeRound (take to text ++ (part ++ drop (length text - to) (drop to text))) (at + w) (to + n) layer (round + 1)
           unfolding messagesText
           round-done w e part n v =

@@ -1,5 +1,5 @@
-// What the program `transcript` prints: the honest transcript of the circuit, input and coins that it reads, or why there is none. The text is
-// written to a buffer first, since no promise can speak of standard output.
+// What the program `transcript` prints: the honest transcript of the circuit, input and coins that it reads, or why there is none. The text
+// is written to a buffer first, since no promise can speak of standard output.
 use libc::STDOUT_FILENO;
 use prover::Proved;
 use xdr::Arrays;
@@ -27,7 +27,8 @@ fn write_message(
     message: &[u32],
     text: &mut [u8],
 ) -> usize
-    ensures { λ r. ⌜ Wrote (lineText (wordOf (now (circuit .entry)) (place layer round)) (now (message .entry))) (now (text .entry)) (now (text .exit)) r ⌝ }
+    ensures { λ r. ⌜ Wrote (lineText (wordOf (now (circuit .entry)) (place layer round)) (now (message .entry)))
+        (now (text .entry)) (now (text .exit)) r ⌝ }
 {
     if standing::is_line(circuit, layer, round) {
         return text::put_line(text, b"line", message);
@@ -38,7 +39,8 @@ fn write_message(
 // Writes the lines of all rounds.
 fn write_messages(circuit: &[u32], messages: &[u32], text: &mut [u8]) -> usize
     requires { ⌜ LegalCircuit (now circuit) × (length (now messages) ≡ messageWords (now circuit)) ⌝ }
-    ensures { λ r. ⌜ Wrote (messagesText (now (circuit .entry)) (rounds (now (circuit .entry))) (now (messages .entry))) (now (text .entry)) (now (text .exit)) r ⌝ }
+    ensures { λ r. ⌜ Wrote (messagesText (now (circuit .entry)) (rounds (now (circuit .entry))) (now (messages .entry)))
+        (now (text .entry)) (now (text .exit)) r ⌝ }
 {
     let mut at = 0;
     let mut to = 0;
@@ -63,7 +65,8 @@ fn write_proof(circuit: &[u32], output: u32, messages: &[u32], text: &mut [u8]) 
 
 // Writes what is printed for these lists.
 fn write_lists(circuit: &[u32], input: &[u32], coins: &[u32], text: &mut [u8]) -> usize
-    ensures { λ r. ⌜ Wrote (listsText (now (circuit .entry)) (now (input .entry)) (now (coins .entry))) (now (text .entry)) (now (text .exit)) r ⌝ }
+    ensures { λ r. ⌜ Wrote (listsText (now (circuit .entry)) (now (input .entry)) (now (coins .entry)))
+        (now (text .entry)) (now (text .exit)) r ⌝ }
 {
     let mut messages = [0u32; MAX_MESSAGES];
     let proved = prover::prove(circuit, input, coins, &mut messages);
@@ -79,7 +82,8 @@ fn write_lists(circuit: &[u32], input: &[u32], coins: &[u32], text: &mut [u8]) -
 // Writes what is printed for the lists that begin these words, so many words each.
 fn write_parts(words: &[u32], first: usize, second: usize, third: usize, text: &mut [u8]) -> usize
     requires { ⌜ first + second + third ≤ length (now words) ⌝ }
-    ensures { λ r. ⌜ Wrote (listsText (take first (now (words .entry))) (take second (drop first (now (words .entry)))) (take third (drop (first + second) (now (words .entry))))) (now (text .entry)) (now (text .exit)) r ⌝ }
+    ensures { λ r. ⌜ Wrote (listsText (take first (now (words .entry))) (take second (drop first (now (words .entry))))
+        (take third (drop (first + second) (now (words .entry))))) (now (text .entry)) (now (text .exit)) r ⌝ }
 {
     let coins = first + second;
     let end = coins + third;

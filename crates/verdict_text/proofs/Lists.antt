@@ -54,7 +54,11 @@ answer-short : (n : ℕ) → length (answerText n) ≤ maxLine
 answer-short zero = omega (arith, line-short (ascii "accepted") [])
 answer-short (suc n) = refused-short (suc n)
 
+lists-short : (c input cs ts : List ℕ) → length (listsText c input cs ts) ≤ maxLine
+unfolding listsText
+lists-short c input cs ts = answer-short (listsNumber c input cs ts)
+
 pub verdict-short : (bytes : List ℕ) → length (verdictText bytes) ≤ maxLine
-unfolding verdictText listsText
+unfolding verdictText
 verdict-short bytes =
-    printed-short _ maxLine (omega arith) (λ ls. answer-short (listsNumber (getD ls 0 []) (getD ls 1 []) (getD ls 2 []) (getD ls 3 []))) (given 4 bytes)
+    printed-short _ maxLine (omega arith) (λ ls. lists-short (getD ls 0 []) (getD ls 1 []) (getD ls 2 []) (getD ls 3 [])) (given 4 bytes)

@@ -1,5 +1,5 @@
-// What the program `verdict` prints: whether the transcript that it reads is accepted for the circuit, input and coins before it. The text is
-// written to a buffer first, since no promise can speak of standard output.
+// What the program `verdict` prints: whether the transcript that it reads is accepted for the circuit, input and coins before it. The text
+// is written to a buffer first, since no promise can speak of standard output.
 use libc::STDOUT_FILENO;
 use refusal::Cause;
 use verifier::Outcome;
@@ -33,7 +33,8 @@ fn write_lists(
     transcript: &[u32],
     text: &mut [u8],
 ) -> usize
-    ensures { λ r. ⌜ Wrote (listsText (now (circuit .entry)) (now (input .entry)) (now (coins .entry)) (now (transcript .entry))) (now (text .entry)) (now (text .exit)) r ⌝ }
+    ensures { λ r. ⌜ Wrote (listsText (now (circuit .entry)) (now (input .entry)) (now (coins .entry)) (now (transcript .entry)))
+        (now (text .entry)) (now (text .exit)) r ⌝ }
 {
     if transcript.len() == 0 {
         return printing::write_refused(Cause::BytesUnfit, text);
@@ -52,7 +53,9 @@ fn write_parts(
     text: &mut [u8],
 ) -> usize
     requires { ⌜ first + second + third + fourth ≤ length (now words) ⌝ }
-    ensures { λ r. ⌜ Wrote (listsText (take first (now (words .entry))) (take second (drop first (now (words .entry)))) (take third (drop (first + second) (now (words .entry)))) (take fourth (drop (first + second + third) (now (words .entry))))) (now (text .entry)) (now (text .exit)) r ⌝ }
+    ensures { λ r. ⌜ Wrote (listsText (take first (now (words .entry))) (take second (drop first (now (words .entry))))
+        (take third (drop (first + second) (now (words .entry)))) (take fourth (drop (first + second + third) (now (words .entry)))))
+        (now (text .entry)) (now (text .exit)) r ⌝ }
 {
     let coins = first + second;
     let transcript = coins + third;

@@ -41,19 +41,22 @@ returns c =
     let a = c .before .before .before .before .before .before .before .before .before .before .before .before .before .args in
     let call = c .before .before .before .before .before .before .before .before .evaluate in
     let told = c .before .before .before .before .before .evaluated .given in
+    let answer = sym (ap evaluationOf (told .1)) ∙ call .ensures .answer in
     wrote-as _ _ _ _ (c .before .before .write-refused .ensures) _
-    (printed-refused (a .circuit .now) (a .input .now) _ (omega arith) _ (sym (ap evaluationOf (told .1)) ∙ call .ensures .answer))
+    (printed-refused (a .circuit .now) (a .input .now) _ (omega arith) _ answer)
 
 same-length-2 : tie.Need-same-length-2
 same-length-2 c = search needs
 
 returns-2 : tie.Need-returns-2
 returns-2 c =
-    let a = c .before .before .before .before .before .before .before .before .before .before .before .before .before .before .before .args in
+    let evaluate = c .before .before .before .before .before .before .before .before .before .before in
+    let a = evaluate .before .before .before .before .before .args in
     let call = c .before .before .before .before .before .before .before .before .before .before .evaluate in
     let told = c .before .before .before .before .before .before .before .evaluated2 .given in
+    let answer = sym (ap evaluationOf (told .1)) ∙ call .ensures .answer in
     wrote-as _ _ _ _ (c .before .before .put-line .ensures) _
-    (printed-output (a .circuit .now) (a .input .now) _ (omega arith) (told .0 .0) (sym (ap evaluationOf (told .1)) ∙ call .ensures .answer))
+    (printed-output (a .circuit .now) (a .input .now) _ (omega arith) (told .0 .0) answer)
 
 pub write-lists-spec : {M : Type 1} → statement M
 write-lists-spec =

@@ -31,7 +31,10 @@ array-share-prefix-messages c =
     let call = c .before .before .before .before .prove in
     let told = c .before .proved2 .given in
     let p = told .0 .0 in
-    let printed = printed-proved (a .circuit .now) (a .input .now) (a .coins .now) _ (omega arith) (p .output) (p .words) _ (sym (ap provedOf (told .1)) ∙ call .ensures .answer) (call .ensures .buffer) in
+    let answer = sym (ap provedOf (told .1)) ∙ call .ensures .answer in
+    let printed =
+    printed-proved (a .circuit .now) (a .input .now) (a .coins .now) _ (omega arith) (p .output) (p .words) _ answer
+    (call .ensures .buffer) in
     printed .inside
 
 slice-aggregate-write-proof : tie.Need-slice-aggregate-write-proof
@@ -40,7 +43,10 @@ slice-aggregate-write-proof c =
     let call = c .before .before .before .before .before .prove in
     let told = c .before .before .proved2 .given in
     let p = told .0 .0 in
-    let printed = printed-proved (a .circuit .now) (a .input .now) (a .coins .now) _ (omega arith) (p .output) (p .words) _ (sym (ap provedOf (told .1)) ∙ call .ensures .answer) (call .ensures .buffer) in
+    let answer = sym (ap provedOf (told .1)) ∙ call .ensures .answer in
+    let printed =
+    printed-proved (a .circuit .now) (a .input .now) (a .coins .now) _ (omega arith) (p .output) (p .words) _ answer
+    (call .ensures .buffer) in
     sym (length-take-le (p .words) _ (printed .inside))
 
 write-proof-requires : tie.Need-write-proof-requires
@@ -49,7 +55,10 @@ write-proof-requires c κs =
     let call = c .before .before .before .before .before .before .prove in
     let told = c .before .before .before .proved2 .given in
     let p = told .0 .0 in
-    let printed = printed-proved (a .circuit .now) (a .input .now) (a .coins .now) _ (omega arith) (p .output) (p .words) _ (sym (ap provedOf (told .1)) ∙ call .ensures .answer) (call .ensures .buffer) in
+    let answer = sym (ap provedOf (told .1)) ∙ call .ensures .answer in
+    let printed =
+    printed-proved (a .circuit .now) (a .input .now) (a .coins .now) _ (omega arith) (p .output) (p .words) _ answer
+    (call .ensures .buffer) in
     (printed .legal, printed .words)
 
 same-length : tie.Need-same-length
@@ -60,19 +69,24 @@ returns c =
     let a = c .before .before .before .before .before .before .before .before .before .before .before .before .before .before .args in
     let call = c .before .before .before .before .before .before .before .before .prove in
     let told = c .before .before .before .before .before .proved .given in
+    let answer = sym (ap provedOf (told .1)) ∙ call .ensures .answer in
     wrote-as _ _ _ _ (c .before .before .write-refused .ensures) _
-    (printed-refused (a .circuit .now) (a .input .now) (a .coins .now) _ (omega arith) _ (sym (ap provedOf (told .1)) ∙ call .ensures .answer))
+    (printed-refused (a .circuit .now) (a .input .now) (a .coins .now) _ (omega arith) _ answer)
 
 same-length-2 : tie.Need-same-length-2
 same-length-2 c = search needs
 
 returns-2 : tie.Need-returns-2
 returns-2 c =
-    let a = c .before .before .before .before .before .before .before .before .before .before .before .before .before .before .before .args in
-    let call = c .before .before .before .before .before .before .before .before .before .prove in
+    let prove = c .before .before .before .before .before .before .before .before .before in
+    let a = prove .before .before .before .before .before .before .args in
+    let call = prove .prove in
     let told = c .before .before .before .before .before .before .proved2 .given in
     let p = told .0 .0 in
-    let printed = printed-proved (a .circuit .now) (a .input .now) (a .coins .now) _ (omega arith) (p .output) (p .words) _ (sym (ap provedOf (told .1)) ∙ call .ensures .answer) (call .ensures .buffer) in
+    let answer = sym (ap provedOf (told .1)) ∙ call .ensures .answer in
+    let printed =
+    printed-proved (a .circuit .now) (a .input .now) (a .coins .now) _ (omega arith) (p .output) (p .words) _ answer
+    (call .ensures .buffer) in
     wrote-as _ _ _ _ (c .before .before .write-proof .ensures) _ (printed .text)
 
 pub write-lists-spec : {M : Type 1} → statement M

@@ -24,7 +24,9 @@ returns : tie.Need-returns
 returns c =
     let a = c .before .before .before .before .before .before .before .before .before .before .args in
     let test = c .before .before .before .before .before in
-    wrote-as _ _ _ _ (c .before .before .put-line .ensures) _ (ap (λ (b : Bool). lineText (cond b (ascii "line") (ascii "sum")) (a .message .now)) (sym (test .if1 .taken) ∙ test .before .is-line .ensures))
+    let which = sym (test .if1 .taken) ∙ test .before .is-line .ensures in
+    wrote-as _ _ _ _ (c .before .before .put-line .ensures) _
+    (ap (λ (b : Bool). lineText (cond b (ascii "line") (ascii "sum")) (a .message .now)) which)
 
 slice-aggregate-put-line-2 : tie.Need-slice-aggregate-put-line-2
 slice-aggregate-put-line-2 c = search needs
@@ -39,7 +41,9 @@ returns-2 : tie.Need-returns-2
 returns-2 c =
     let a = c .before .before .before .before .before .before .before .before .before .before .args in
     let test = c .before .before .before .before .before in
-    wrote-as _ _ _ _ (c .before .before .put-line2 .ensures) _ (ap (λ (b : Bool). lineText (cond b (ascii "line") (ascii "sum")) (a .message .now)) (sym (test .if1 .left) ∙ test .before .is-line .ensures))
+    let which = sym (test .if1 .left) ∙ test .before .is-line .ensures in
+    wrote-as _ _ _ _ (c .before .before .put-line2 .ensures) _
+    (ap (λ (b : Bool). lineText (cond b (ascii "line") (ascii "sum")) (a .message .now)) which)
 
 pub write-message-spec : {M : Type 1} → statement M
 write-message-spec =

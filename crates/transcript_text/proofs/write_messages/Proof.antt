@@ -7,14 +7,16 @@ use native.Mathlib.Omega.{arith}
 use borrow.Author.Needs.{needs}
 use Rattle.circuit.specs.Circuit.{depth, exponentAt}
 use Rattle.text.proofs.Writing.{wrote-within, wrote-room, wrote-length, wrote-more}
-use Rattle.transcript_text.proofs.Messages.{BeforeLayer, BeforeRound, lines-start, layer-starts, layer-ends, lines-end, words-there, round-done}
+use Rattle.transcript_text.proofs.Messages.{BeforeLayer, BeforeRound, lines-start, lines-end}
+use Rattle.transcript_text.proofs.Messages.{layer-starts, layer-ends, words-there, round-done}
 use Rattle.transcript_text.proofs.write_messages.Statement.{statement}
 use Rattle.transcript_text.proofs.write_messages.Tie as tie
 
 abbrev Inv-loop2 : tie.InvT-loop2
 Inv-loop2 circuit messages text₀ at₀ to₀ layer round₀ layer-end round-end text at to round =
     (round-end ≡ 2 * exponentAt circuit layer + 1)
-    × ((before : List ℕ) → BeforeLayer circuit messages before text₀ at₀ to₀ layer → BeforeRound circuit messages before text at to layer round)
+    × ((before : List ℕ) → BeforeLayer circuit messages before text₀ at₀ to₀ layer
+    → BeforeRound circuit messages before text at to layer round)
 
 abbrev μ-loop2 : tie.MeasureT-loop2
 μ-loop2 circuit messages text₀ at₀ to₀ layer round₀ layer-end round-end text at to round = round-end - round
@@ -62,9 +64,10 @@ loop2-holds : tie.Need-loop2-holds Inv-loop2 μ-loop2 Inv-loop μ-loop
 loop2-holds c =
     let over = c .before .before .loop in
     let start = c .before .before .before .before .before .before .before in
-    let l = start .args .circuit .now in (
+    let a = start .args in (
       ap (λ (k : ℕ). 2 * k + 1) (c .exponent .ensures),
-      λ before b. layer-starts l (start .args .messages .now) before (start .pre .0) (over .text) (over .at) (over .to) (over .layer) b (omega (arith, over .inv .0, c .before .loop-test .taken)),
+      λ before b. layer-starts (a .circuit .now) (a .messages .now) before (start .pre .0) (over .text) (over .at) (over .to) (over .layer)
+          b (omega (arith, over .inv .0, c .before .loop-test .taken)),
     )
 
 message-length-requires : tie.Need-message-length-requires Inv-loop2 μ-loop2 Inv-loop μ-loop
@@ -177,8 +180,8 @@ loop2-again c =
     let more = subst (λ (i : ℕ). at .round < i) (at .inv .0) (c .before .before .before .before .before .before .loop2-test .taken) in
     let wide = c .before .before .before .before .before .message-length in (
       at .inv .0,
-      λ before b. round-done l (start .args .messages .now) before (start .pre .0) (at .text) (at .at) (at .to) (over .layer) (at .round) (at .inv .1 before b) more
-          (wide .result) (wide .ensures) _ _ (c .before .before .write-message .ensures),
+      λ before b. round-done l (start .args .messages .now) before (start .pre .0) (at .text) (at .at) (at .to) (over .layer) (at .round)
+          (at .inv .1 before b) more (wide .result) (wide .ensures) _ _ (c .before .before .write-message .ensures),
     )
 
 add-layer : tie.Need-add-layer Inv-loop2 μ-loop2 Inv-loop μ-loop
@@ -196,8 +199,8 @@ loop-again c =
     let l = start .args .circuit .now in
     let first = start .args .text .now in (
       refl,
-      layer-ends l (start .args .messages .now) first (start .pre .0) (at .text) (at .at) (at .to) (over .layer) (at .round) (at .inv .1 first (over .inv .1))
-          (subst (λ (i : ℕ). i ≤ at .round) (at .inv .0) (c .loop2-test .left)),
+      layer-ends l (start .args .messages .now) first (start .pre .0) (at .text) (at .at) (at .to) (over .layer) (at .round)
+          (at .inv .1 first (over .inv .1)) (subst (λ (i : ℕ). i ≤ at .round) (at .inv .0) (c .loop2-test .left)),
     )
 
 same-length : tie.Need-same-length Inv-loop2 μ-loop2 Inv-loop μ-loop
@@ -209,7 +212,8 @@ returns c =
     let at = c .before .loop in
     let start = c .before .before .before .before .before .before in
     let a = start .args in
-    lines-end (a .circuit .now) (a .messages .now) (a .text .now) (start .pre .0) (at .text) (at .at) (at .to) (at .layer) (at .inv .1) (omega (arith, at .inv .0, c .loop-test .left))
+    lines-end (a .circuit .now) (a .messages .now) (a .text .now) (start .pre .0) (at .text) (at .at) (at .to) (at .layer) (at .inv .1)
+    (omega (arith, at .inv .0, c .loop-test .left))
 
 pub write-messages-spec : {M : Type 1} → statement M
 write-messages-spec =

@@ -18,7 +18,9 @@ add-end : tie.Need-add-end
 add-end c = search needs
 
 slice-aggregate-write-lists : tie.Need-slice-aggregate-write-lists
-slice-aggregate-write-lists c = sym (length-take-le (c .before .before .before .args .first) (c .before .before .before .args .words .now) (omega arith))
+slice-aggregate-write-lists c =
+    let a = c .before .before .before .args in
+    sym (length-take-le (a .first) (a .words .now) (omega arith))
 
 mul-write-lists : tie.Need-mul-write-lists
 mul-write-lists c = search needs

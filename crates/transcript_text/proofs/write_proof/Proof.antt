@@ -28,14 +28,17 @@ write-messages-requires c κs = search needs
 
 add-result : tie.Need-add-result
 add-result c =
-    let room = wrote-room _ _ _ _ (wrote-more _ _ _ _ (c .before .before .before .before .before .before .put-line .ensures) _ _ _ (c .before .before .write-messages .ensures)) in
+    let first = c .before .before .before .before .before .before .put-line in
+    let room = wrote-room _ _ _ _ (wrote-more _ _ _ _ (first .ensures) _ _ _ (c .before .before .write-messages .ensures)) in
     search needs
 
 same-length : tie.Need-same-length
 same-length c = search needs
 
 returns : tie.Need-returns
-returns c = wrote-more _ _ _ _ (c .before .before .before .before .before .before .put-line .ensures) _ _ _ (c .before .before .write-messages .ensures)
+returns c =
+    let first = c .before .before .before .before .before .before .put-line in
+    wrote-more _ _ _ _ (first .ensures) _ _ _ (c .before .before .write-messages .ensures)
 
 pub write-proof-spec : {M : Type 1} → statement M
 write-proof-spec =

@@ -1,4 +1,4 @@
--- `write_lists` meets its contract: a transcript without an output is refused, and another is the output and the messages that Check is given.
+-- `write_lists` meets its contract: a transcript without an output is refused, and another is the output and the messages for Check.
 -- Assumes nothing.
 use mathlib.Core.Path.{ap, _∙_}
 use native.Mathlib.Omega.{arith}

@@ -41,7 +41,8 @@ same-length-2 c = search needs
 returns-2 : tie.Need-returns-2
 returns-2 c =
     let told = c .before .before .before .before .before .outcome .given in
-    wrote-as _ _ _ _ (c .before .before .write-refused .ensures) _ (printed-cause (told .0 .0) ∙ ap (λ o. answerText (outcomeOf o)) (sym (told .1)))
+    wrote-as _ _ _ _ (c .before .before .write-refused .ensures) _
+    (printed-cause (told .0 .0) ∙ ap (λ o. answerText (outcomeOf o)) (sym (told .1)))
 
 pub write-outcome-spec : {M : Type 1} → statement M
 write-outcome-spec =

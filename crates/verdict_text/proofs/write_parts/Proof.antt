@@ -1,6 +1,6 @@
 -- `write_parts` meets its contract: the parts are the lists.
 -- Assumes nothing.
-use Prim.Native.Nat.{ℕ, _+_, _-_}
+use Prim.Native.Nat.{_+_, _-_}
 use mathlib.Core.Path.{_≡_, sym}
 use native.Mathlib.Omega.{arith}
 use lib.Seq.{length-take-le}
