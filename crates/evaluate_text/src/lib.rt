@@ -10,9 +10,6 @@ ghost use Rattle.text.specs.Wrote.{Wrote};
 ghost use Rattle.printing.specs.Limits.{maxLine};
 ghost use Rattle.evaluate_text.specs.Output.{listsText, outputText};
 
-// The bytes of the longest line.
-const MAX_TEXT: usize = 19;
-
 // Writes what is printed for these lists. The buffer holds the values of every circuit, so that none is refused by 10.
 fn write_lists(circuit: &[u32], input: &[u32], text: &mut [u8]) -> usize
     ensures { λ r. ⌜ Wrote (listsText (now (circuit .entry)) (now (input .entry))) (now (text .entry)) (now (text .exit)) r ⌝ }
@@ -56,7 +53,7 @@ pub fn write_output(bytes: &[u8], text: &mut [u8]) -> usize
 pub fn print_output(bytes: &[u8]) -> usize
     ensures { λ r. ⌜ (r ≡ length (outputText (now (bytes .entry)))) × (r ≤ maxLine) ⌝ }
 {
-    let mut text = [0u8; MAX_TEXT];
+    let mut text = [0u8; printing::MAX_LINE];
     let count = write_output(bytes, &mut text);
     io::write_all(STDOUT_FILENO, &text[..count]);
     count

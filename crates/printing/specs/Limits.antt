@@ -6,6 +6,6 @@ use Prim.Native.Nat.{ℕ}
 abbrev pub maxBytes : ℕ
 maxBytes = 65536
 
--- the longest line of a refusal, or of another word that is no longer: seven letters, a space, ten digits and the line's end
+-- the longest line of a number after a word of at most seven letters: with them a space, ten digits and the line's end
 abbrev pub maxLine : ℕ
 maxLine = 19

@@ -12,9 +12,6 @@ ghost use Rattle.verifier.specs.Answers.{outcomeOf};
 ghost use Rattle.printing.specs.Limits.{maxLine};
 ghost use Rattle.verdict_text.specs.Verdict.{answerText, listsText, verdictText};
 
-// The bytes of the longest line.
-const MAX_TEXT: usize = 19;
-
 // Writes the line of a check's answer.
 fn write_outcome(outcome: Outcome, text: &mut [u8]) -> usize
     ensures { λ r. ⌜ Wrote (answerText (outcomeOf outcome)) (now (text .entry)) (now (text .exit)) r ⌝ }
@@ -97,7 +94,7 @@ pub fn write_verdict(bytes: &[u8], text: &mut [u8]) -> usize
 pub fn print_verdict(bytes: &[u8]) -> usize
     ensures { λ r. ⌜ (r ≡ length (verdictText (now (bytes .entry)))) × (r ≤ maxLine) ⌝ }
 {
-    let mut text = [0u8; MAX_TEXT];
+    let mut text = [0u8; printing::MAX_LINE];
     let count = write_verdict(bytes, &mut text);
     io::write_all(STDOUT_FILENO, &text[..count]);
     count
