@@ -1,0 +1,56 @@
+-- `kidlothe_evaluate` meets its contract: the case of the answer gives its plain numbers.
+-- Assumes nothing.
+use mathlib.Core.Path.{ap, _∙_}
+use Rattle.evaluation.specs.Evaluate.{evaluationOf, refused}
+use Rattle.kidlothe.specs.Answers.{plainEvaluation}
+use Rattle.kidlothe.proofs.Told.{told}
+use borrow.Author.Needs.{needs}
+use Rattle.kidlothe.proofs.kidlothe_evaluate.Statement.{statement}
+use Rattle.kidlothe.proofs.kidlothe_evaluate.Tie as tie
+
+evaluate-requires : tie.Need-evaluate-requires
+evaluate-requires c κs = search needs
+
+enum-known-evaluated : tie.Need-enum-known-evaluated
+enum-known-evaluated c = search needs
+
+enum-known-evaluated-2 : tie.Need-enum-known-evaluated-2
+enum-known-evaluated-2 c = search needs
+
+number-requires : tie.Need-number-requires
+number-requires c κs = search needs
+
+same-length : tie.Need-same-length
+same-length c = search needs
+
+returns : tie.Need-returns
+returns c =
+    let call = c .before .before .before .before .before .evaluate in
+    record {
+      answer = ap plainEvaluation (told evaluationOf (c .before .evaluated .given .1) (call .ensures .answer));
+      buffer = call .ensures .buffer;
+    }
+
+same-length-2 : tie.Need-same-length-2
+same-length-2 c = search needs
+
+returns-2 : tie.Need-returns-2
+returns-2 c =
+    let call = c .before .before .before .before .before .before .evaluate in
+    record {
+      answer = ap (λ n. plainEvaluation (refused n)) (c .number .ensures) ∙ ap plainEvaluation (told evaluationOf (c .before .before .evaluated2 .given .1) (call .ensures .answer));
+      buffer = call .ensures .buffer;
+    }
+
+pub kidlothe-evaluate-spec : {M : Type 1} → statement M
+kidlothe-evaluate-spec =
+    tie.close
+    (tie.spec
+    evaluate-requires
+    enum-known-evaluated
+    enum-known-evaluated-2
+    number-requires
+    same-length
+    returns
+    same-length-2
+    returns-2)

@@ -1,0 +1,48 @@
+-- `kidlothe_open` meets its contract: the case of the answer gives its number and the words.
+-- Assumes nothing.
+use Rattle.refusal.specs.Number.{numberOf}
+use Rattle.verifier.specs.Answers.{recordOf, openingOf}
+use Rattle.kidlothe.proofs.Told.{told}
+use Rattle.kidlothe.proofs.Opening.{export-opened, export-refused}
+use borrow.Author.Needs.{needs}
+use Rattle.kidlothe.proofs.kidlothe_open.Statement.{statement}
+use Rattle.kidlothe.proofs.kidlothe_open.Tie as tie
+
+open-requires : tie.Need-open-requires
+open-requires c κs = search needs
+
+enum-known-opening : tie.Need-enum-known-opening
+enum-known-opening c = search needs
+
+session-words-requires : tie.Need-session-words-requires
+session-words-requires c κs = search needs
+
+enum-known-opening-2 : tie.Need-enum-known-opening-2
+enum-known-opening-2 c = search needs
+
+number-requires : tie.Need-number-requires
+number-requires c κs = search needs
+
+returns : tie.Need-returns
+returns c =
+    let case = c .before .before .opening .given in
+    let call = c .before .before .before .before .«open» in
+    export-opened _ _ _ _ _ (recordOf (case .0 .0)) (told openingOf (case .1) (call .ensures)) _ (c .session-words .ensures)
+
+returns-2 : tie.Need-returns-2
+returns-2 c =
+    let case = c .before .before .opening2 .given in
+    let call = c .before .before .before .before .«open» in
+    export-refused _ _ _ _ _ (numberOf (case .0 .0)) (told openingOf (case .1) (call .ensures)) _ (c .number .ensures)
+
+pub kidlothe-open-spec : {M : Type 1} → statement M
+kidlothe-open-spec =
+    tie.close
+    (tie.spec
+    open-requires
+    enum-known-opening
+    session-words-requires
+    enum-known-opening-2
+    number-requires
+    returns
+    returns-2)
