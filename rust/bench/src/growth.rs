@@ -30,7 +30,15 @@ fn lines(places: &[usize], shape: fn(usize) -> Shape) -> Vec<Line> {
 
 pub fn measured() -> Growth {
     Growth {
-        by_exponent: lines(&[0, 1, 2, 3, 4, 5, 6, 7, 8], |exponent| Shape { prime: LARGEST_PRIME, depth: DEPTH, exponent }),
-        by_depth: lines(&[1, 2, 4, 6, 8, 10, 12, 14, 16], |depth| Shape { prime: LARGEST_PRIME, depth, exponent: EXPONENT }),
+        by_exponent: lines(&[0, 1, 2, 3, 4, 5, 6, 7, 8], |exponent| Shape {
+            prime: LARGEST_PRIME,
+            depth: DEPTH,
+            exponent,
+        }),
+        by_depth: lines(&[1, 2, 4, 6, 8, 10, 12, 14, 16], |depth| Shape {
+            prime: LARGEST_PRIME,
+            depth,
+            exponent: EXPONENT,
+        }),
     }
 }

@@ -77,7 +77,8 @@ fn messages(job: &Job) -> impl Iterator<Item = &[u32]> {
 }
 
 fn session_proved(job: &Job) -> u32 {
-    let mut session = kidlothe::Session::open(&job.circuit, &job.input, job.output, &job.coins).expect("the lists are legal");
+    let mut session =
+        kidlothe::Session::open(&job.circuit, &job.input, job.output, &job.coins).expect("the lists are legal");
     let mut accepted = false;
     for message in messages(job) {
         let answer = session.step(&job.circuit, &job.input, &job.coins, message);

@@ -35,21 +35,42 @@ impl Panel<'_> {
             let _ = writeln!(svg, "<text x='{}' y='{:.1}' text-anchor='end'>{label} µs</text>", left - 6.0, y + 4.0);
         }
         for &(place, _) in &self.lines[0].points {
-            let _ = writeln!(svg, "<text x='{:.1}' y='{}' text-anchor='middle'>{place}</text>", self.x(place), TOP + HEIGHT + 18.0);
+            let _ = writeln!(
+                svg,
+                "<text x='{:.1}' y='{}' text-anchor='middle'>{place}</text>",
+                self.x(place),
+                TOP + HEIGHT + 18.0
+            );
         }
-        let _ = writeln!(svg, "<text x='{}' y='{}' text-anchor='middle'>{}</text>", left + WIDTH / 2.0, TOP + HEIGHT + 38.0, self.letter);
+        let _ = writeln!(
+            svg,
+            "<text x='{}' y='{}' text-anchor='middle'>{}</text>",
+            left + WIDTH / 2.0,
+            TOP + HEIGHT + 38.0,
+            self.letter
+        );
     }
 
     fn curve(&self, svg: &mut String, colour: &str, dashes: &str, points: impl Iterator<Item = (usize, f64)>) {
-        let path: Vec<String> = points.map(|(place, time)| format!("{:.1},{:.1}", self.x(place), height(time * 1e6))).collect();
-        let _ = writeln!(svg, "<polyline fill='none' stroke='{colour}' stroke-width='2'{dashes} points='{}'/>", path.join(" "));
+        let path: Vec<String> =
+            points.map(|(place, time)| format!("{:.1},{:.1}", self.x(place), height(time * 1e6))).collect();
+        let _ = writeln!(
+            svg,
+            "<polyline fill='none' stroke='{colour}' stroke-width='2'{dashes} points='{}'/>",
+            path.join(" ")
+        );
     }
 
     fn draw(&self, svg: &mut String) {
         self.frame(svg);
         for (line, colour) in self.lines.iter().zip(COLOURS) {
             self.curve(svg, colour, "", line.points.iter().map(|&(place, times)| (place, times.proved)));
-            self.curve(svg, colour, " stroke-dasharray='5 4'", line.points.iter().map(|&(place, times)| (place, times.plain)));
+            self.curve(
+                svg,
+                colour,
+                " stroke-dasharray='5 4'",
+                line.points.iter().map(|&(place, times)| (place, times.plain)),
+            );
         }
     }
 }
@@ -70,11 +91,15 @@ fn legend(svg: &mut String, lines: &[Line]) {
 }
 
 pub fn drawn(growth: &Growth) -> String {
-    let mut svg = String::from("<svg xmlns='http://www.w3.org/2000/svg' width='960' height='440' font-family='sans-serif' font-size='12'>\n");
+    let mut svg = String::from(
+        "<svg xmlns='http://www.w3.org/2000/svg' width='960' height='440' font-family='sans-serif' font-size='12'>\n",
+    );
     let _ = writeln!(svg, "<rect width='960' height='440' fill='white'/>");
     legend(&mut svg, &growth.by_exponent);
-    Panel { left: 70.0, title: format!("Growth with k (D {DEPTH})"), letter: "k", lines: &growth.by_exponent }.draw(&mut svg);
-    Panel { left: 550.0, title: format!("Growth with D (k {EXPONENT})"), letter: "D", lines: &growth.by_depth }.draw(&mut svg);
+    Panel { left: 70.0, title: format!("Growth with k (D {DEPTH})"), letter: "k", lines: &growth.by_exponent }
+        .draw(&mut svg);
+    Panel { left: 550.0, title: format!("Growth with D (k {EXPONENT})"), letter: "D", lines: &growth.by_depth }
+        .draw(&mut svg);
     svg.push_str("</svg>\n");
     svg
 }

@@ -44,7 +44,13 @@ fn head(text: &mut String) {
     let processor = value_of("/proc/cpuinfo", "model name").unwrap_or("unknown".to_string());
     let cores = std::thread::available_parallelism().map_or(0, usize::from);
     let _ = writeln!(text, "# Benchmark\n");
-    let _ = writeln!(text, "{}, on {cores} cores of {processor} ({}), {}.", printed("date", &["-u", "+%F"]), printed("uname", &["-sm"]), printed("rustc", &["--version"]));
+    let _ = writeln!(
+        text,
+        "{}, on {cores} cores of {processor} ({}), {}.",
+        printed("date", &["-u", "+%F"]),
+        printed("uname", &["-sm"]),
+        printed("rustc", &["--version"])
+    );
     let _ = writeln!(text, "\nThe proved library beside a plain Rust implementation of the same algorithms (`rust/plain`, products by `%`), both built for release, timed in one run in turn on the same eight random circuits of a shape; medians. A ratio is the proved library's time over the plain one's. Times on such a machine vary from run to run, ratios much less.\n");
 }
 

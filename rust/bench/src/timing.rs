@@ -45,9 +45,8 @@ pub fn times(operation: &Operation, shape: Shape) -> Times {
     }
     let once = time(operation.proved, &jobs, 1) * JOBS as f64;
     let turns = (SHORTEST / once).ceil().max(1.0) as usize;
-    let pairs: Vec<(f64, f64)> = (0..PAIRS)
-        .map(|_| (time(operation.proved, &jobs, turns), time(operation.plain, &jobs, turns)))
-        .collect();
+    let pairs: Vec<(f64, f64)> =
+        (0..PAIRS).map(|_| (time(operation.proved, &jobs, turns), time(operation.plain, &jobs, turns))).collect();
     Times {
         proved: median(pairs.iter().map(|pair| pair.0).collect()),
         plain: median(pairs.iter().map(|pair| pair.1).collect()),

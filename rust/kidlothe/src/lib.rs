@@ -104,15 +104,8 @@ pub fn evaluate(circuit: &[u32], input: &[u32], buffer: &mut [u32]) -> Result<u3
 /// 10, and leaves the buffer then.
 pub fn read(bytes: &[u8], number: u32, buffer: &mut [u32]) -> Result<[u32; 4], Refusal> {
     // SAFETY: the bytes are borrowed for the call, the buffer mutably, so they do not overlap.
-    let answer = unsafe {
-        foreign::kidlothe_read(
-            bytes.as_ptr(),
-            bytes.len(),
-            number,
-            buffer.as_mut_ptr(),
-            buffer.len(),
-        )
-    };
+    let answer =
+        unsafe { foreign::kidlothe_read(bytes.as_ptr(), bytes.len(), number, buffer.as_mut_ptr(), buffer.len()) };
     answered(answer.refusal, answer.counts)
 }
 
@@ -132,10 +125,7 @@ pub fn prove(circuit: &[u32], input: &[u32], coins: &[u32], messages: &mut [u32]
             messages.len(),
         )
     };
-    let proof = Proof {
-        output: answer.output,
-        words: answer.words,
-    };
+    let proof = Proof { output: answer.output, words: answer.words };
     answered(answer.refusal, proof)
 }
 
