@@ -8,8 +8,8 @@ const COLOURS: [&str; 4] = ["#1b6ca8", "#c0392b", "#2e8b57", "#7d3c98"];
 const WIDTH: f64 = 380.0;
 const HEIGHT: f64 = 320.0;
 const TOP: f64 = 60.0;
-const LOWEST: i32 = -2;
-const HIGHEST: i32 = 5;
+const LOWEST: i32 = -1;
+const HIGHEST: i32 = 3;
 
 struct Panel<'a> {
     left: f64,
