@@ -6,7 +6,7 @@ use Prim.Native.Nat.{ℕ, _<_}
 use native.Mathlib.Nat.{mod-lt}
 use Rattle.algebra.specs.Numbers.{Numbers, words}
 use Rattle.algebra.specs.Ring.{Ring}
-use Rattle.algebra.specs.Residue.{residue, residues}
+use Rattle.algebra.specs.Residue.{residue}
 use Rattle.algebra.proofs.Ring.{ring}
 use Rattle.algebra.proofs.Hom.{hom-add, hom-sub, hom-mul}
 use Rattle.algebra.proofs.Residue.{residues-ring, residue-hom, residue-injective}
