@@ -1,6 +1,6 @@
 #!/usr/bin/env python3
 """Makes what test programs read (stdin) and what they must print (stdout): the cases of cases_circuit, cases_xdr, cases_check,
-cases_prove and transcript_cases, and the input of transcript and of transcript_long.
+cases_prove and cases_programs, and the input of transcript, verdict, evaluate and transcript_long.
 
     tests/make_cases.py VECTORS
 
@@ -9,9 +9,9 @@ record as it is before the call, the expected answer, and the buffer or record a
 that shares nothing with this repository. Cases of other operations are passed over.
 
 Cases at the edges are added. Their answers come from the functions load, evaluate, read, check, opening, step, prove, prove_one and
-printed below, which follow the specification word by word; they must first give the answer of every case in VECTORS. No answer comes from
-a program of this repository. Some cases more are counts: on how many of all coin lists the messages of C7 are accepted, those of the
-prover, and those of the best rule for each output.
+printed below, which follow the specification word by word; they must first give the answer of every case in VECTORS, which has none of the
+programs verdict and evaluate. No answer comes from a program of this repository. Some cases more are counts: on how many of all coin lists
+the messages of C7 are accepted, those of the prover, and those of the best rule for each output.
 
 The form of a case stands at the top of each program, that of a printed buffer in the crate cases.
 """
@@ -27,8 +27,8 @@ SENTINEL = 4242424242
 FIGURES = ("layer", "round", "claim", "open")
 # The limits of the programs: bytes of a case, words of its first list, and of the others.
 LIMITS = {"cases_circuit": (65536, 16384, 16384), "cases_xdr": (262144, 65536, 0), "cases_check": (65536, 16384, 1024),
-          "cases_prove": (65536, 16384, 1024), "transcript_cases": (131072, 0, 0)}
-# The bytes that the program transcript takes.
+          "cases_prove": (65536, 16384, 1024), "cases_programs": (131072, 0, 0)}
+# The bytes that a program takes.
 MAX_BYTES = 65536
 
 
@@ -377,13 +377,7 @@ def text_line(word, numbers):
     return " ".join([word] + [str(n) for n in numbers]) + "\n"
 
 
-def printed(data):
-    """What the program transcript prints."""
-    given, words = (["refused", 20], []) if len(data) > MAX_BYTES else read(3, data, [0] * MAX_BYTES)
-    if given[0] == "refused":
-        return text_line("refused", [20])
-    _, first, second, third, _ = given
-    circuit, inputs, coins = words[:first], words[first:first + second], words[first + second:first + second + third]
+def transcript_text(circuit, inputs, coins):
     cause = lists_cause(circuit, inputs) or coins_cause(circuit, coins)
     if cause:
         return text_line("refused", [cause])
@@ -393,16 +387,50 @@ def printed(data):
     return text
 
 
-def transcript_bytes(args):
-    """What the program transcript reads, given as bytes or as its three lists."""
-    return bytes.fromhex(args["bytes"]) if "bytes" in args else arrays(args["circuit"], args["input"], args["coins"])
+def verdict_text(circuit, inputs, coins, argued):
+    """The last list has the output, then the message words: without an output it is not the array that was called for."""
+    word, *number = check(circuit, inputs, argued[0], coins, argued[1:]) if argued else ["refused", 20]
+    return text_line(word, number)
+
+
+def output_text(circuit, inputs):
+    cause = lists_cause(circuit, inputs)
+    return text_line("refused", [cause]) if cause else text_line("output", values_of(circuit, inputs)[0])
+
+
+# The programs: the number of each in a case, how many arrays it reads, what it prints for them, and the refusals that it can print.
+PROGRAMS = {"transcript": (1, 3, transcript_text, {*range(1, 10), 11, 12, 20}),
+            "verdict": (2, 4, verdict_text, {*range(1, 10), *range(11, 19), 20}),
+            "output": (3, 2, output_text, {*range(1, 10), 20})}
+
+
+def printed(program, data):
+    """What a program prints for these bytes."""
+    _, number, text, _ = PROGRAMS[program]
+    given, words = (["refused", 20], []) if len(data) > MAX_BYTES else read(number, data, [0] * MAX_BYTES)
+    if given[0] == "refused":
+        return text_line("refused", [20])
+    ends = [sum(given[1:1 + i]) for i in range(number + 1)]
+    return text(*(words[start:end] for start, end in zip(ends, ends[1:])))
+
+
+def program_bytes(op, args):
+    """What a program reads, given as bytes or as its lists."""
+    if "bytes" in args:
+        return bytes.fromhex(args["bytes"])
+    lists = [args["circuit"], args["input"]]
+    if op == "verdict":
+        lists += [args["coins"], [args["output"]] + args["messages"]]
+    if op == "transcript":
+        lists.append(args["coins"])
+    return arrays(*lists)
 
 
 def answer(op, args):
     """The answer, and the buffer or record after it."""
     circuit, inputs, coins = args.get("circuit"), args.get("input"), args.get("coins")
-    if op == "transcript":
-        return printed(transcript_bytes(args)), {}
+    if op in PROGRAMS:
+        return printed(op, program_bytes(op, args)), {}
     if op == "load":
         cause = load(circuit)
         return (["refused", cause] if cause else ["legal"]), {}
@@ -610,6 +638,14 @@ def transcript_of(circuit, inputs, coins):
     return "transcript", {"circuit": circuit, "input": inputs, "coins": coins}
 
 
+def verdict_of(*lists):
+    return "verdict", check_of(*lists)[1]
+
+
+def output_of(circuit, inputs):
+    return "output", {"circuit": circuit, "input": inputs}
+
+
 def worked():
     """The specification's cases C1 to C12."""
     circuit, inputs, coins, first, second, line = [13, 1, 1, 2, 0, 1], [3, 5], [4, 6, 9], [2, 8, 3], [0, 5, 12], [11, 4]
@@ -790,6 +826,8 @@ def orders():
     short = [(10, fewer("buf"))]
     for (op, args), found in (
             (transcript_of(circuit, inputs, drawn), legal + coins),
+            (verdict_of(*lists), legal + output + coins + messages),
+            (output_of(circuit, inputs), legal),
             (check_of(*lists), legal + output + coins + messages),
             (first, legal + output + coins),
             (steps[0], legal + coins + record + message + [(16, next_word("message", 1))]),
@@ -875,15 +913,38 @@ def largest_edges():
     circuit, inputs = largest()
     draw = Draw(272)
     _, _, output, coins, messages = transcript(circuit, inputs, [draw.below(circuit[0]) for _ in places(circuit)])
-    yield check_of(circuit, inputs, output, coins, messages)
-    yield check_of(circuit, inputs, output, coins, messages[:-1] + [messages[-1][:-1] + [0]])
+    for lists in (messages, messages[:-1] + [messages[-1][:-1] + [0]]):
+        yield check_of(circuit, inputs, output, coins, lists)
+        yield verdict_of(circuit, inputs, output, coins, lists)
+    yield output_of(circuit, inputs)
     yield list(session_of(circuit, inputs, output, coins, messages))[-2]
 
 
-def full_lists():
-    """Three lists whose bytes are as many as the program transcript takes: a legal circuit and input, and more coins than it has."""
+def filled(*lists):
+    """The lists, the last with so many zeros behind it that their bytes are as many as a program takes."""
+    return lists[:-1] + (lists[-1] + [0] * ((MAX_BYTES - len(arrays(*lists))) // 4),)
+
+
+def full_lists(op):
+    """Lists that fill what a program takes: a legal circuit and input, and a list that is too long, with the refusal that it earns."""
     circuit, inputs = largest()
-    return circuit, inputs, [0] * (MAX_BYTES // 4 - 3 - len(circuit) - len(inputs))
+    if op == "output":
+        return filled(circuit, inputs), 8
+    if op == "transcript":
+        return filled(circuit, inputs, []), 11
+    return filled(circuit, inputs, [0] * len(places(circuit)), []), 14
+
+
+def cut_edges(op, *lists):
+    """Bytes that are not as many arrays as a program reads: cut off, too many, or with a count that is too large; then as many bytes as
+    are taken, and a word more."""
+    data, (full, number) = arrays(*lists), full_lists(op)
+    bad = [data[:count] for count in range(len(data))] + [data + bytes(count) for count in (1, 2, 3, 4, 8)]
+    bad += [count.to_bytes(4, "big") + data[4:] for count in (2 ** 30, 2 ** 31, 2 ** 32 - 1)]
+    bad += [arrays(*full), arrays(*full[:-1], full[-1] + [0])]
+    assert [printed(op, data) for data in bad[-2:]] == [f"refused {number}\n", "refused 20\n"] and len(bad[-2]) == MAX_BYTES
+    for data in bad:
+        yield op, {"bytes": data.hex()}
 
 
 def transcript_edges():
@@ -900,27 +961,34 @@ def transcript_edges():
                 yield transcript_of(circuit, changed, coins)
         for count in (0, 1, len(coins) - 1, len(coins) + 1):
             yield transcript_of(circuit, inputs, (coins + [1])[:count])
-    # Bytes that are not three arrays: cut off, too many, or with a count that is too large, whether or not its words are there.
-    data = arrays([13, 1, 1, 2, 0, 1], [3, 5], [4, 6, 9])
-    bad = [data[:count] for count in range(len(data))] + [data + bytes(count) for count in (1, 2, 3, 4, 8)]
-    for count in (11541, 11542):
-        bad += [arrays([0] * count, [], []), arrays([], [], [0] * count)]
-    for count in (2 ** 30, 2 ** 31, 2 ** 32 - 1):
-        bad.append(count.to_bytes(4, "big") + data[4:])
-    # As many bytes as are taken, with three arrays or without, and more.
-    circuit, inputs, coins = full_lists()
-    full = arrays(circuit, inputs, coins)
-    bad += [full, arrays(circuit, inputs, coins + [0]), full + bytes(1), full[:-1], bytes(MAX_BYTES), bytes(MAX_BYTES + 1)]
-    assert [printed(data) for data in bad[-6:-4]] == ["refused 11\n", "refused 20\n"] and len(full) == MAX_BYTES
-    for data in bad:
+    yield from cut_edges("transcript", [13, 1, 1, 2, 0, 1], [3, 5], [4, 6, 9])
+    # A count that is too large, though its words are there; as many bytes as are taken, or more, that are not three arrays.
+    bad = [arrays(*lists) for count in (11541, 11542) for lists in ([[0] * count, [], []], [[], [], [0] * count])]
+    full = arrays(*full_lists("transcript")[0])
+    for data in bad + [full + bytes(1), full[:-1], bytes(MAX_BYTES), bytes(MAX_BYTES + 1)]:
         yield "transcript", {"bytes": data.hex()}
+
+
+def program_edges():
+    """Cases of the programs verdict and evaluate. A transcript with no output is 20 whatever the other lists are; one with an output alone
+    is checked."""
+    for circuit, inputs, output, coins, messages in itertools.chain(worked(), shapes()):
+        yield verdict_of(circuit, inputs, output, coins, messages)
+        yield output_of(circuit, inputs)
+    circuit, inputs, output, coins, messages = next(worked())
+    for argued in ([], [output], [output] + messages[0]):
+        for lists in ([circuit, inputs, coins], [[], [], []], [circuit, inputs, []], [circuit, [13, 5], coins]):
+            yield "verdict", {"bytes": arrays(*lists, argued).hex()}
+    yield from cut_edges("verdict", circuit, inputs, coins, [output] + sum(messages, []))
+    yield from cut_edges("output", circuit, inputs)
 
 
 def edges():
     for lists in itertools.chain(worked(), shapes()):
         yield check_of(*lists)
         yield from session_of(*lists)
-    yield from itertools.chain(counts(), words_at_p(), lengths(), records(), orders(), two_messages(), largest_edges(), transcript_edges())
+    yield from itertools.chain(counts(), words_at_p(), lengths(), records(), orders(), two_messages(), largest_edges(), transcript_edges(),
+                               program_edges())
     yield from itertools.chain(proofs(), proof_words_at_p(), largest_proofs(), prove_counts())
     for circuit in load_edges():
         yield "load", {"circuit": circuit}
@@ -952,8 +1020,8 @@ def lent(buf):
 
 def case(op, args):
     """The program that runs a case, the lists that must fit into its arrays, and the case's bytes."""
-    if op == "transcript":
-        return "transcript_cases", [[]], part(transcript_bytes(args))
+    if op in PROGRAMS:
+        return "cases_programs", [[]], word(PROGRAMS[op][0]) + part(program_bytes(op, args))
     buf = args.get("buf", [])
     if op == "read":
         return "cases_xdr", [buf], word(args["number"]) + lent(buf) + part(bytes.fromhex(args["bytes"]))
@@ -980,8 +1048,8 @@ def checksum(buf):
 
 
 def line(op, expected, after):
-    """What the program prints for a case: a line, or a transcript's own lines."""
-    if op == "transcript":
+    """What the program prints for a case: a line, or a program's own lines."""
+    if op in PROGRAMS:
         return expected
     text = " ".join(map(str, expected))
     buf, record = after.get("buf"), after.get("record")
@@ -995,9 +1063,18 @@ def line(op, expected, after):
 
 
 def runs():
-    """The programs that read standard input whole: the worked example, and a byte more than is taken."""
-    yield "transcript", arrays([13, 1, 1, 2, 0, 1], [3, 5], [4, 6, 9])
-    yield "transcript_long", arrays(*full_lists()) + bytes(1)
+    """The programs that read standard input whole: the worked example for each, and a byte more than is taken."""
+    circuit, inputs, output, coins, messages = next(worked())
+    yield "transcript", "transcript", arrays(circuit, inputs, coins)
+    yield "verdict", "verdict", arrays(circuit, inputs, coins, [output] + sum(messages, []))
+    yield "evaluate", "output", arrays(circuit, inputs)
+    yield "transcript_long", "transcript", arrays(*full_lists("transcript")[0]) + bytes(1)
+
+
+def every_refusal(found):
+    """Whether the cases of each program have all refusals that it can print."""
+    said = {op: {int(text.split()[1]) for name, _, (text, _) in found if name == op and text.startswith("refused")} for op in PROGRAMS}
+    return all(said[op] == PROGRAMS[op][3] for op in PROGRAMS)
 
 
 def write(name, stdin, stdout):
@@ -1017,6 +1094,7 @@ def main():
                 found.append((op, args, expected))
     given = len(found)
     found += [(op, args, answer(op, args)) for op, args in edges()]
+    assert every_refusal(found)
     stdin = {name: [] for name in LIMITS}
     stdout = {name: "" for name in LIMITS}
     for op, args, expected in found:
@@ -1032,8 +1110,8 @@ def main():
         write(name, b"".join(cases), stdout[name])
         print(f"{name}: {len(cases)} cases, {sum(map(len, cases))} bytes")
     print(f"{given} of them from {sys.argv[1]}")
-    for name, data in runs():
-        write(name, data, printed(data))
+    for name, program, data in runs():
+        write(name, data, printed(program, data))
         print(f"{name}: {len(data)} bytes")
 
 

@@ -1,5 +1,5 @@
 #!/usr/bin/env python3
-"""Tests of ./job on the examples. They need rt and run the built programs; rt builds what is not built yet.
+"""Tests of ./job on the examples. They run the built programs; build them first, by ./job or `rt check evaluate transcript verdict`.
 
 Expected transcripts come from the literal reading of the specification in make_cases.py, not from a program of this repository.
 """
@@ -47,8 +47,30 @@ REFUSED_TRANSCRIPTS = [
 ]
 
 
-def job(*arguments, **options):
-    return subprocess.run([ROOT / "job", *arguments], capture_output=True, text=True, **options)
+# A folder with an rt that does nothing, for all runs but the first: the programs are built then.
+IDLE = tempfile.TemporaryDirectory()
+
+
+def setUpModule():
+    script(pathlib.Path(IDLE.name) / "rt", "")
+
+
+def tearDownModule():
+    IDLE.cleanup()
+
+
+def script(file, text):
+    file.write_text(f"#!/bin/sh\n{text}\n")
+    file.chmod(0o755)
+
+
+def path_with(folder):
+    return {**os.environ, "PATH": f"{folder}:{os.environ['PATH']}"}
+
+
+def job(*arguments, env=None, **options):
+    env = env or path_with(IDLE.name)
+    return subprocess.run([ROOT / "job", *arguments], capture_output=True, text=True, env=env, **options)
 
 
 def numbers_in(file):
@@ -76,7 +98,7 @@ class Job(unittest.TestCase):
         self.assertNotRegex(ran.stdout, r"output \d+ is released")
 
     def test_worked_example(self):
-        ran = job(cwd=self.folder)
+        ran = job(cwd=self.folder, env=dict(os.environ))
         self.assertEqual((ran.stderr, ran.returncode), ("", 0))
         self.assertEqual(ran.stdout, (ROOT / "tests" / "expected" / "job-worked.txt").read_text())
 
@@ -165,9 +187,9 @@ class Job(unittest.TestCase):
             self.assertNotEqual(ran.stderr, "")
 
     def test_a_build_that_fails(self):
-        self.file("rt", "#!/bin/sh\necho not proved\nexit 1\n").chmod(0o755)
+        script(self.folder / "rt", "echo not proved\nexit 1")
         for arguments in ([], [WORKED / "circuit.txt", WORKED / "input.txt"]):
-            ran = job(*arguments, env={**os.environ, "PATH": f"{self.folder}:{os.environ['PATH']}"})
+            ran = job(*arguments, env=path_with(self.folder))
             self.assertEqual((ran.stderr, ran.returncode), ("not proved\nrt check failed with exit status 1\n", 3))
             self.assertNotIn("released", ran.stdout)
 
@@ -178,13 +200,13 @@ class Job(unittest.TestCase):
             shutil.copy(ROOT / name, self.folder / name)
         (self.folder / "target" / "bin").mkdir(parents=True)
         for name, text in (("rt", ""), ("target/bin/evaluate", "echo output 2"), ("target/bin/transcript", "echo claim 2")):
-            self.file(name, f"#!/bin/sh\n{text}\n").chmod(0o755)
+            script(self.folder / name, text)
         for text, status in (("echo accepted", 0), ("echo refused 16", 1), ("", 3), ("printf accepted", 3), ("echo accepted 2", 3),
                              ("echo Accepted", 3), ("echo refused", 3), ("echo refused 21", 3), ("echo accepted; exit 1", 3),
                              ("echo accepted; echo refused 16", 3), ("echo accepted; kill -9 $$", 3)):
-            self.file("target/bin/verdict", f"#!/bin/sh\ncat > /dev/null\n{text}\n").chmod(0o755)
+            script(self.folder / "target" / "bin" / "verdict", f"cat > /dev/null\n{text}")
             ran = subprocess.run([self.folder / "job", WORKED / "circuit.txt", WORKED / "input.txt", "--coins", WORKED / "coins.txt"],
-                                 capture_output=True, text=True, env={**os.environ, "PATH": f"{self.folder}:{os.environ['PATH']}"})
+                                 capture_output=True, text=True, env=path_with(self.folder))
             self.assertEqual(ran.returncode, status, (text, ran))
             self.assertEqual("output 2 is released" in ran.stdout, status == 0, text)
 

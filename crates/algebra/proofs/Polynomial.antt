@@ -2,7 +2,7 @@
 -- Assumes nothing.
 use mathlib.Core.Path.{_≡_, refl, sym, ap, ap₂, _∙_}
 use mathlib.Core.List.{List, [], _∷_, map}
-use Prim.Native.Nat.{ℕ, zero, suc, _+_, _-_, _≤_, _<_, zero-le}
+use Prim.Native.Nat.{ℕ, zero, suc, _+_, _≤_, _<_, zero-le}
 use native.Mathlib.Nat.{mod-lt}
 use native.Mathlib.Omega.{arith}
 use lib.ListN.{length, length-map}
@@ -23,10 +23,6 @@ module _ {C : Type 0} (N : Numbers C) where
   pub value-nil : (x : C) → valueAt N [] x ≡ 𝟘
   unfolding valueAt
   value-nil x = refl
-
-  pub value-cons : (c : C) (f : List C) (x : C) → valueAt N (c ∷ f) x ≡ c ⊕ x ⊗ valueAt N f x
-  unfolding valueAt
-  value-cons c f x = refl
 
 module _ {C : Type 0} {N : Numbers C} (R : Ring N) where
   open Numbers N using (𝟘, 𝟙, add as _⊕_, sub as _⊖_, mul as _⊗_)

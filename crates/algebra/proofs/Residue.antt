@@ -21,11 +21,6 @@ module _ (p : ℕ) (pos : 0 < p) where
   unfolding residue
   residue-val n = refl
 
-  -- back and forth
-  pub residue-of : (a : Fin p) → residue p pos (a .0) ≡ a
-  unfolding residue
-  residue-of a = Fin·val-path (mod-eq-of-lt (a .1))
-
   -- words below p with one residue are one word
   pub residue-injective : (a b : ℕ) → a < p → b < p → residue p pos a ≡ residue p pos b → a ≡ b
   unfolding residue

@@ -3,17 +3,17 @@
 -- Assumes nothing.
 use Prim.Native.Nat.{ℕ, _+_, _-_, _*_, _^_, _≤_, _<_, zero-le}
 use mathlib.Core.Path.{_≡_, refl, sym, ap, _∙_}
-use mathlib.Core.Bool.{Bool, true, false, not, false≢true}
+use mathlib.Core.Bool.{Bool, true, false, not}
 use mathlib.Core.List.{List, [], _∷_, map}
 use native.Mathlib.Nat.{le-refl, le-trans, le-of-eq, add-zero, one-mul, zero-mul, pow-zero, pow-succ', mul-zero, mul-le-mul, mul-le-mul-left, mul-le-mul-right, mul-left-comm, sub-le, suc-sub-suc, sub-zero}
 use native.Mathlib.Omega.{arith}
 use lib.ListN.{length}
 use Rattle.lists.specs.Count.{sum, one-if, count, range}
 use Rattle.lists.proofs.Count.{sum-nil, sum-cons, sum-le, sum-add, sum-scale, sum-const, count-sum, count-none, count-not, length-range, all-range}
-use Rattle.counting.specs.Coins.{CoinList, passing}
+use Rattle.counting.specs.Coins.{passing}
 use Rattle.counting.specs.Doomed.{Doomed, Fails, luckless}
 use Rattle.counting.specs.Theorems.{LossesAdd, LossesMultiply, Stages}
-use Rattle.counting.proofs.Coins.{coin-cons, split-at-first, split-none, at-most-all}
+use Rattle.counting.proofs.Coins.{split-at-first, split-none, at-most-all}
 
 -- HOW A TEST IS SHOWN TO BE DOOMED
 -- no round left
@@ -41,22 +41,6 @@ unfolding Doomed
 doomed-refused p [] test h = h []
 doomed-refused p (d ∷ losses) test h =
     (λ c. false, le-trans (le-of-eq (count-none (range p))) zero-le, λ c l e. doomed-refused p losses (λ cs. test (c ∷ cs)) (λ cs. h (c ∷ cs)))
-
--- a test that passes no more than a doomed one
-pub doomed-less : (p : ℕ) (losses : List ℕ) (f g : List ℕ → Bool)
-    → ((cs : List ℕ) → CoinList p (length losses) cs → f cs ≡ true → g cs ≡ true) → Doomed p losses Fails g → Doomed p losses Fails f
-unfolding Doomed
-doomed-less p [] f g h q = go (f []) refl
-  where
-    go : (b : Bool) → f [] ≡ b → f [] ≡ false
-    go true e = absurd (false≢true (sym q ∙ h [] (refl, tt) e))
-    go false e = e
-doomed-less p (d ∷ losses) f g h q = (
-  q .0,
-  q .1,
-  λ c l e.
-      doomed-less p losses (λ cs. f (c ∷ cs)) (λ cs. g (c ∷ cs)) (λ cs v. h (c ∷ cs) (coin-cons p (length losses) c cs l v)) (q .2 c l e),
-)
 
 -- THE BOUND
 module _ (p : ℕ) where

@@ -8,12 +8,11 @@ ghost use Rattle.multilinear.specs.Extension.{weight, between, halving};
 // The coordinates of a point of the widest layer.
 pub const MAX_COORDINATES: usize = 8;
 
-// (1 - z) × low + z × high
+// (1 - z) × low + z × high, by one product: low + z × (high - low)
 pub fn between(f: Field, z: u32, low: u32, high: u32) -> u32
     ensures { λ r. ⌜ r ≡ between (numbers f) z low high ⌝ }
 {
-    let below = f.mul(f.sub(Field::ONE, z), low);
-    f.add(below, f.mul(z, high))
+    f.add(low, f.mul(z, f.sub(high, low)))
 }
 
 // The extension of the values at the point, from those of their halves; the number of coordinates that remain falls. With no coordinate
@@ -33,7 +32,8 @@ pub fn extend(f: Field, values: &[u32], point: &[u32]) -> u32
     between(f, point[0], low, high)
 }
 
-// The weight of an index at the point. The lowest bit belongs to the last coordinate, so the product is built from there.
+// The weight of an index at the point. The lowest bit belongs to the last coordinate, so the product is built from there. Both factors are
+// computed before one is taken: no processor can guess the bits of an index.
 pub fn weight_of(f: Field, index: usize, point: &[u32]) -> u32
     ensures { λ r. ⌜ r ≡ weight (numbers f) index (now (point .entry)) ⌝ }
 {
@@ -43,11 +43,8 @@ pub fn weight_of(f: Field, index: usize, point: &[u32]) -> u32
     while 0 < left {
         left -= 1;
         let z = point[left];
-        let factor = if rest % 2 == 1 {
-            z
-        } else {
-            f.sub(Field::ONE, z)
-        };
+        let complement = f.sub(Field::ONE, z);
+        let factor = if rest % 2 == 1 { z } else { complement };
         product = f.mul(factor, product);
         rest = rest / 2;
     }

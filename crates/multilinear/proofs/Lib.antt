@@ -8,3 +8,4 @@ pub mod Linear
 pub mod Degree
 pub mod Words
 pub mod Tables
+pub mod Slope

@@ -17,14 +17,6 @@ module _ {C : Type 0} (N : Numbers C) {A : Type 0} where
   open Numbers N using (𝟘, add as _⊕_)
 
   infixl 60 _⊕_
-  pub sumFrom-none : (f : ℕ → A → C) (a : ℕ) → sumFrom N f a [] ≡ 𝟘
-  unfolding sumFrom
-  sumFrom-none f a = refl
-
-  pub sumFrom-more : (f : ℕ → A → C) (a : ℕ) (x : A) (l : List A) → sumFrom N f a (x ∷ l) ≡ f a x ⊕ sumFrom N f (suc a) l
-  unfolding sumFrom
-  sumFrom-more f a x l = refl
-
   pub sumFrom-same : (f g : ℕ → A → C) → ((i : ℕ) (x : A) → f i x ≡ g i x) → (a : ℕ) (l : List A) → sumFrom N f a l ≡ sumFrom N g a l
   unfolding sumFrom
   sumFrom-same f g e a [] = refl

@@ -4,7 +4,6 @@ use mathlib.Core.Path.{_≡_, sym, ap, _∙_}
 use mathlib.Core.List.{List, [], _∷_, map}
 use Prim.Native.Nat.{ℕ, zero, suc, _+_, _*_, _%_, _^_, _<_, Fin}
 use native.Mathlib.Nat.{mod-lt, mod-eq-of-lt, mul-one, add-zero}
-use native.Mathlib.Omega.{arith}
 use lib.ListN.{length, getD, length-map}
 use Rattle.lists.specs.Each.{All}
 use Rattle.algebra.specs.Numbers.{words}
@@ -28,12 +27,6 @@ module _ (p : ℕ) (pos : 0 < p) where
   halving-below [] [] h = pos
   halving-below (v ∷ vs) [] h = h .0
   halving-below vs (x ∷ z) h = mod-lt _ pos
-
--- a weight is a word below p where there are at least two residues
-pub weight-below : (p : ℕ) → 1 < p → (b : ℕ) (z : List ℕ) → weight (words p) b z < p
-unfolding bits weightOfBits
-weight-below p more b [] = more
-weight-below p more b (x ∷ z) = mod-lt _ (omega arith)
 
 pub below : Below
 unfolding extension

@@ -1,5 +1,3 @@
-pub mod Messages
-pub mod Limits
-pub mod Answers
-pub mod Arrays
-pub mod Length
+pub mod Input
+pub mod Parts
+pub mod Lengths

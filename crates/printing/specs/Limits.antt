@@ -1,4 +1,4 @@
--- The limits of the program `transcript`.
+-- The limits of the programs.
 -- Assumes nothing.
 use Prim.Native.Nat.{ℕ}
 
@@ -6,7 +6,6 @@ use Prim.Native.Nat.{ℕ}
 abbrev pub maxBytes : ℕ
 maxBytes = 65536
 
--- The longest text: 17 bytes for the output's line, for each of 272 rounds a word and a line's end, and for each of 912 message words a space
--- and ten digits.
-abbrev pub maxText : ℕ
-maxText = 11409
+-- the longest line of a number after a word of at most seven letters: with them a space, ten digits and the line's end
+abbrev pub maxLine : ℕ
+maxLine = 19

@@ -15,17 +15,18 @@ ghost use Rattle.tables.specs.Table.{maxWidth, Written, spread};
 // The gates of the widest layer.
 pub const MAX_WIDTH: usize = 256;
 
-// Puts z before the point whose weights are the first half of a table: its two factors make two halves.
+// Puts z before the point whose weights are the first half of a table: its two factors make two halves. What z takes of a weight is a product,
+// what 1 - z takes of it is the rest.
 fn spread(f: Field, table: &mut [u32], z: u32)
     ensures { λ _. ⌜ now (table .exit) ≡ over (spread (numbers f) z (take (length (now (table .entry)) / 2) (now (table .entry)))) (now (table .entry)) ⌝ }
 {
     let half = table.len() / 2;
-    let low = f.multiplier(f.sub(Field::ONE, z));
-    let high = f.multiplier(z);
+    let by = f.multiplier(z);
     for b in 0..half {
         let weight = table[b];
-        table[half + b] = f.times(high, weight);
-        table[b] = f.times(low, weight);
+        let taken = f.times(by, weight);
+        table[half + b] = taken;
+        table[b] = f.sub(weight, taken);
     }
 }
 
@@ -52,10 +53,10 @@ fn fold(f: Field, table: &mut [u32], r: u32)
     ensures { λ _. ⌜ now (table .exit) ≡ over (fold (numbers f) r (now (table .entry))) (now (table .entry)) ⌝ }
 {
     let half = table.len() / 2;
-    let low = f.multiplier(f.sub(Field::ONE, r));
-    let high = f.multiplier(r);
+    let by = f.multiplier(r);
     for b in 0..half {
-        table[b] = f.add(f.times(low, table[b]), f.times(high, table[half + b]));
+        let low = table[b];
+        table[b] = f.add(low, f.times(by, f.sub(table[half + b], low)));
     }
 }
 

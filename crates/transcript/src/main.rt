@@ -1,4 +1,5 @@
-// The program `transcript`: reads a circuit, its input and coins as three arrays (RFC 4506) on standard input, and prints the honest transcript.
+// The program `transcript`: reads a circuit, its input and coins as three arrays (RFC 4506) on standard input, and prints the honest
+// transcript.
 fn main() {
-    printing::run();
+    transcript_text::run();
 }

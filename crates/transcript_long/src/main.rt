@@ -1,4 +1,4 @@
 // The program `transcript` on a byte more than it takes. All but the last byte are three arrays, which would be refused by another number.
 fn main() {
-    printing::run();
+    transcript_text::run();
 }

@@ -1,5 +1,9 @@
--- `between` meets its contract: it is the definition, operation by operation.
+-- `between` meets its contract: one product gives what two do.
 -- Assumes nothing.
+use mathlib.Core.Path.{ap, _∙_}
+use native.Mathlib.Omega.{arith}
+use Rattle.field.specs.Modulus.{modulus, numbers}
+use Rattle.multilinear.proofs.Slope.{by-slope}
 use borrow.Author.Needs.{needs}
 use Rattle.extension.proofs.between.Statement.{statement}
 use Rattle.extension.proofs.between.Tie as tie
@@ -10,14 +14,16 @@ sub-requires c κs = search needs
 mul-requires : tie.Need-mul-requires
 mul-requires c κs = search needs
 
-mul-requires-2 : tie.Need-mul-requires-2
-mul-requires-2 c κs = search needs
-
 add-requires : tie.Need-add-requires
 add-requires c κs = search needs
 
 returns : tie.Need-returns
-returns c = cc
+returns c =
+    let a = c .before .before .before .args in
+    let N = numbers (a .f) in
+    let difference = c .before .before .sub .ensures in
+    let product = c .before .mul .ensures ∙ ap (N .mul (a .z)) difference in
+    c .add .ensures ∙ ap (N .add (a .low)) product ∙ by-slope (modulus (a .f)) (omega arith) (a .z) (a .low) (a .high)
 
 pub between-spec : {M : Type 1} → statement M
-between-spec = tie.close (tie.spec sub-requires mul-requires mul-requires-2 add-requires returns)
+between-spec = tie.close (tie.spec sub-requires mul-requires add-requires returns)

@@ -40,7 +40,7 @@ loop-less c = search needs
 loop-again : tie.Need-loop-again Inv-loop μ-loop
 loop-again c =
     let factor = c .before .if1 .factor in
-    let here = c .before .before .before .before in
+    let here = c .before .before .before .before .before in
     let args = here .before .before .args in
     let rest = here .loop .rest in
     let z = getD (args .point .now) (here .loop .left - 1) 0 in

@@ -27,7 +27,9 @@ same-length c = search needs
 
 returns : tie.Need-returns
 unfolding refusedText
-returns c = wrote-as _ _ _ _ (c .before .before .put-line .ensures) _ (ap (λ (n : ℕ). lineText (ascii "refused") (n ∷ [])) (c .before .before .before .before .number .ensures))
+returns c =
+    wrote-as _ _ _ _ (c .before .before .put-line .ensures) _
+    (ap (λ (n : ℕ). lineText (ascii "refused") (n ∷ [])) (c .before .before .before .before .number .ensures))
 
 pub write-refused-spec : {M : Type 1} → statement M
 write-refused-spec =

@@ -1,53 +1,49 @@
 -- `fold` meets its contract. The loop keeps `Fold`: b entries of the fold stand over the front.
 -- Assumes nothing.
 use borrow.Author.Needs.{needs}
-use Prim.Native.Nat.{ℕ, _-_, _%_}
-use mathlib.Core.Path.{_≡_, refl, ap, ap₂, _∙_}
+use Prim.Native.Nat.{ℕ, _-_}
+use mathlib.Core.Path.{_≡_, refl, ap, _∙_}
+use native.Mathlib.Omega.{arith}
 use lib.ListN.{length, length-set}
 use Rattle.field.specs.Modulus.{modulus, numbers}
 use Rattle.field.proofs.Word.{by-residue}
+use Rattle.multilinear.proofs.Slope.{by-slope}
 use Rattle.tables.proofs.Folding.{Fold, start, step, end}
 use Rattle.tables.proofs.fold.Statement.{statement}
 use Rattle.tables.proofs.fold.Tie as tie
 
 abbrev Inv-loop : tie.InvT-loop
-Inv-loop f table₀ r half low high b₀ table b = (Fold (numbers f) r table₀ table b) × (length table ≡ length table₀)
+Inv-loop f table₀ r half by b₀ table b = (Fold (numbers f) r table₀ table b) × (length table ≡ length table₀)
 
 abbrev μ-loop : tie.MeasureT-loop
-μ-loop f table₀ r half low high b₀ table b = half - b
-
-sub-requires : tie.Need-sub-requires Inv-loop μ-loop
-sub-requires c κs = search needs
+μ-loop f table₀ r half by b₀ table b = half - b
 
 multiplier-requires : tie.Need-multiplier-requires Inv-loop μ-loop
 multiplier-requires c κs = search needs
 
-multiplier-requires-2 : tie.Need-multiplier-requires-2 Inv-loop μ-loop
-multiplier-requires-2 c κs = search needs
-
 loop-holds : tie.Need-loop-holds Inv-loop μ-loop
 loop-holds c = (start _ _ _, refl)
 
-mul-times : tie.Need-mul-times Inv-loop μ-loop
-mul-times c = search needs
+mul-low : tie.Need-mul-low Inv-loop μ-loop
+mul-low c = search needs
 
-slice-read-times : tie.Need-slice-read-times Inv-loop μ-loop
-slice-read-times c = search needs
+slice-read-low : tie.Need-slice-read-low Inv-loop μ-loop
+slice-read-low c = search needs
+
+add-sub : tie.Need-add-sub Inv-loop μ-loop
+add-sub c = search needs
+
+mul-sub : tie.Need-mul-sub Inv-loop μ-loop
+mul-sub c = search needs
+
+slice-read-sub : tie.Need-slice-read-sub Inv-loop μ-loop
+slice-read-sub c = search needs
+
+sub-requires : tie.Need-sub-requires Inv-loop μ-loop
+sub-requires c κs = search needs
 
 times-requires : tie.Need-times-requires Inv-loop μ-loop
 times-requires c κs = search needs
-
-add-times : tie.Need-add-times Inv-loop μ-loop
-add-times c = search needs
-
-mul-times-2 : tie.Need-mul-times-2 Inv-loop μ-loop
-mul-times-2 c = search needs
-
-slice-read-times-2 : tie.Need-slice-read-times-2 Inv-loop μ-loop
-slice-read-times-2 c = search needs
-
-times-requires-2 : tie.Need-times-requires-2 Inv-loop μ-loop
-times-requires-2 c κs = search needs
 
 add-requires : tie.Need-add-requires Inv-loop μ-loop
 add-requires c κs = search needs
@@ -68,13 +64,12 @@ loop-again : tie.Need-loop-again Inv-loop μ-loop
 loop-again c =
     let at = c .before .before .before .before .before .before in
     let made = at .before in
-    let args = made .before .before .before .before .args in
+    let args = made .before .before .args in
     let p : ℕ = modulus (args .f) in
-    let one-less = made .before .multiplier .ensures ∙ ap (λ (n : ℕ). n % p) (made .before .before .sub .ensures) in (
+    let N = numbers (args .f) in
+    let product = c .before .times .ensures ∙ by-residue p (args .r) _ _ (made .multiplier .ensures) ∙ ap (N .mul (args .r)) (c .before .before .sub .ensures) in (
       step _ _ _ _ (at .loop .b) 0 _ (at .loop .inv .0) (search needs)
-          (c .add .ensures
-          ∙ ap₂ (numbers (args .f) .add) (c .before .before .before .times .ensures ∙ by-residue p (numbers (args .f) .sub 1 (args .r)) _ _ one-less)
-          (c .before .times2 .ensures ∙ by-residue p (args .r) _ _ (made .multiplier2 .ensures))),
+          (c .add .ensures ∙ ap (N .add _) product ∙ by-slope p (omega arith) (args .r) _ _),
       length-set (at .loop .table) (at .loop .b) (c .add .result) ∙ at .loop .inv .1,
     )
 
@@ -90,17 +85,15 @@ fold-spec =
     (tie.spec
     Inv-loop
     μ-loop
-    sub-requires
     multiplier-requires
-    multiplier-requires-2
     loop-holds
-    mul-times
-    slice-read-times
+    mul-low
+    slice-read-low
+    add-sub
+    mul-sub
+    slice-read-sub
+    sub-requires
     times-requires
-    add-times
-    mul-times-2
-    slice-read-times-2
-    times-requires-2
     add-requires
     mul-table
     slice-write-table

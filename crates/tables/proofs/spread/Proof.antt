@@ -1,30 +1,26 @@
 -- `spread` meets its contract. The loop keeps `Spread`: b entries of each half are written, and the others are as they were.
 -- Assumes nothing.
 use borrow.Author.Needs.{needs}
-use Prim.Native.Nat.{ℕ, _-_, _%_}
+use Prim.Native.Nat.{ℕ, _-_}
 use mathlib.Core.Path.{_≡_, refl, ap, _∙_}
+use native.Mathlib.Omega.{arith}
 use lib.ListN.{length, length-set}
 use lib.Seq.{lt-length-set}
 use Rattle.field.specs.Modulus.{modulus, numbers}
 use Rattle.field.proofs.Word.{by-residue}
+use Rattle.multilinear.proofs.Slope.{by-rest}
 use Rattle.tables.proofs.Spreading.{Spread, start, step, end}
 use Rattle.tables.proofs.spread.Statement.{statement}
 use Rattle.tables.proofs.spread.Tie as tie
 
 abbrev Inv-loop : tie.InvT-loop
-Inv-loop f table₀ z half low high b₀ table b = (Spread (numbers f) z table₀ table b) × (length table ≡ length table₀)
+Inv-loop f table₀ z half by b₀ table b = (Spread (numbers f) z table₀ table b) × (length table ≡ length table₀)
 
 abbrev μ-loop : tie.MeasureT-loop
-μ-loop f table₀ z half low high b₀ table b = half - b
-
-sub-requires : tie.Need-sub-requires Inv-loop μ-loop
-sub-requires c κs = search needs
+μ-loop f table₀ z half by b₀ table b = half - b
 
 multiplier-requires : tie.Need-multiplier-requires Inv-loop μ-loop
 multiplier-requires c κs = search needs
-
-multiplier-requires-2 : tie.Need-multiplier-requires-2 Inv-loop μ-loop
-multiplier-requires-2 c κs = search needs
 
 loop-holds : tie.Need-loop-holds Inv-loop μ-loop
 loop-holds c = (start _ _ _, refl)
@@ -47,8 +43,8 @@ mul-table c = search needs
 slice-write-table : tie.Need-slice-write-table Inv-loop μ-loop
 slice-write-table c = search needs
 
-times-requires-2 : tie.Need-times-requires-2 Inv-loop μ-loop
-times-requires-2 c κs = search needs
+sub-requires : tie.Need-sub-requires Inv-loop μ-loop
+sub-requires c κs = search needs
 
 mul-table-2 : tie.Need-mul-table-2 Inv-loop μ-loop
 mul-table-2 c = search needs
@@ -68,13 +64,11 @@ loop-again : tie.Need-loop-again Inv-loop μ-loop
 loop-again c =
     let at = c .before .before .before .before in
     let made = at .before in
-    let args = made .before .before .before .before .args in
-    let p : ℕ = modulus (args .f) in (
-      step _ _ _ _ (at .loop .b) 0 _ _ (at .loop .inv .0) (search needs)
-          (c .before .times .ensures ∙ by-residue p (args .z) _ _ (made .multiplier2 .ensures))
-          (c .times2 .ensures
-          ∙ by-residue p (numbers (args .f) .sub 1 (args .z)) _ _
-          (made .before .multiplier .ensures ∙ ap (λ (n : ℕ). n % p) (made .before .before .sub .ensures))),
+    let args = made .before .before .args in
+    let p : ℕ = modulus (args .f) in
+    let taken = c .before .times .ensures ∙ by-residue p (args .z) _ _ (made .multiplier .ensures) in (
+      step _ _ _ _ (at .loop .b) 0 _ _ (at .loop .inv .0) (search needs) taken
+          (c .sub .ensures ∙ ap (numbers (args .f) .sub _) taken ∙ by-rest p (omega arith) (args .z) _),
       simp length-set (at .loop .inv .1),
     )
 
@@ -90,9 +84,7 @@ spread-spec =
     (tie.spec
     Inv-loop
     μ-loop
-    sub-requires
     multiplier-requires
-    multiplier-requires-2
     loop-holds
     mul-weight
     slice-read-weight
@@ -100,7 +92,7 @@ spread-spec =
     add-table
     mul-table
     slice-write-table
-    times-requires-2
+    sub-requires
     mul-table-2
     slice-write-table-2
     add-b

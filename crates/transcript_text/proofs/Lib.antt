@@ -1,0 +1,5 @@
+pub mod Messages
+pub mod Limits
+pub mod Answers
+pub mod Length
+pub mod Lists

@@ -1,0 +1,106 @@
+-- The lines of all rounds: those written and those of the rounds left are the whole, before each layer and before each round.
+-- Assumes nothing.
+use Prim.Native.Nat.{ℕ, _+_, _-_, _*_, _≤_, _<_}
+use mathlib.Core.Path.{_≡_, refl, sym, ap, ap₂, _∙_}
+use mathlib.Core.List.{List, [], _∷_, _++_, map, append-assoc, append-nil}
+use native.Mathlib.Nat.{zero-add}
+use native.Mathlib.Omega.{arith}
+use lib.ListN.{length, take, drop}
+use lib.Seq.{drop-drop}
+use Rattle.lists.specs.Count.{sum}
+use Rattle.lists.proofs.Count.{sum-cons}
+use Rattle.circuit.specs.Circuit.{depth, exponentAt, messageWords}
+use Rattle.circuit.specs.Sized.{LegalCircuit}
+use Rattle.protocol.specs.Rounds.{Place, place, rounds}
+use Rattle.protocol.specs.Judge.{messageLength}
+use Rattle.protocol.proofs.Sums.{message-words}
+use Rattle.protocol.proofs.Places.{before-round}
+use Rattle.standing.proofs.Loops as loops
+use Rattle.text.specs.Lines.{lineText}
+use Rattle.text.specs.Wrote.{Wrote}
+use Rattle.text.proofs.Writing.{wrote-none, wrote-more, wrote-as}
+use Rattle.transcript_text.specs.Transcript.{wordOf, messagesText}
+
+module _ (c ms before : List ℕ) where
+  -- after `at` message words and `to` bytes, with these rounds left
+  pub record Left (text : List ℕ) (at to : ℕ) (rs : List Place) (n : ℕ) : Type 0 where
+    pub done : List ℕ
+    pub wrote : Wrote done before text to
+    pub whole : done ++ messagesText c rs (drop at ms) ≡ messagesText c (rounds c) ms
+    pub counted : at + sum (map (messageLength c) rs) ≡ length ms
+
+  -- before a layer, and before a round of one, n coins before it
+  pub record BeforeLayer (text : List ℕ) (at to layer : ℕ) : Type 0 where
+    pub coins : ℕ
+    pub stands : loops.BeforeLayer c (Left text at to) layer coins
+
+  pub record BeforeRound (text : List ℕ) (at to layer round : ℕ) : Type 0 where
+    pub coins : ℕ
+    pub stands : loops.BeforeRound c (Left text at to) layer round coins
+
+  module _ (legal : LegalCircuit c) where
+    pub lines-start : length ms ≡ messageWords c → BeforeLayer before 0 0 1
+    lines-start e = record {
+      coins = 0;
+      stands =
+          loops.loops-start c legal (Left before 0 0)
+          (record {
+            done = [];
+            wrote = wrote-none before;
+            whole = refl;
+            counted = zero-add (sum (map (messageLength c) (rounds c))) ∙ message-words c ∙ sym e;
+          });
+    }
+
+    module _ (text : List ℕ) (at to layer : ℕ) where
+      pub layer-starts : BeforeLayer text at to layer → layer ≤ depth c → BeforeRound text at to layer 0
+      layer-starts b inside =
+          record { coins = b .coins; stands = loops.layer-starts c legal (Left text at to) layer (b .coins) (b .stands) inside }
+
+      pub lines-end : BeforeLayer text at to layer → depth c < layer → Wrote (messagesText c (rounds c) ms) before text to
+      unfolding messagesText
+      lines-end b out =
+          let left = loops.loops-end c legal (Left text at to) layer (b .coins) (b .stands) out in
+          wrote-as (left .done) before text to (left .wrote) (messagesText c (rounds c) ms) (sym (append-nil (left .done)) ∙ left .whole)
+
+      module _ (round : ℕ) (b : BeforeRound text at to layer round) where
+        pub layer-ends : 2 * exponentAt c layer + 1 ≤ round → BeforeLayer text at to (layer + 1)
+        layer-ends done =
+            record { coins = b .coins; stands = loops.layer-ends c legal (Left text at to) layer round (b .coins) (b .stands) done }
+
+        module _ (more : round < 2 * exponentAt c layer + 1) where
+          left : Left text at to (place layer round ∷ before-round c layer (round + 1)) (b .coins)
+          left = loops.round-opened c legal (Left text at to) layer round (b .coins) (b .stands) more
+
+          pub words-there : at + messageLength c (place layer round) ≤ length ms
+          words-there =
+              let more = sum-cons (messageLength c (place layer round)) (map (messageLength c) (before-round c layer (round + 1))) in
+              omega (arith, left .counted, more)
+
+          pub round-done : (w : ℕ) → w ≡ messageLength c (place layer round) → (part : List ℕ) (n : ℕ)
+              → Wrote (lineText (wordOf c (place layer round)) (take (at + w - at) (drop at ms)))
+              (take (length text - to) (drop to text)) part n
+              → BeforeRound (take to text ++ (part ++ drop (length text - to) (drop to text))) (at + w) (to + n) layer (round + 1)
+          unfolding messagesText
+          round-done w e part n v =
+              let rest : List Place = before-round c layer (round + 1) in
+              let len : ℕ = messageLength c (place layer round) in
+              let cut : at + w - at ≡ w = omega arith in
+              let line : List ℕ = lineText (wordOf c (place layer round)) (take (at + w - at) (drop at ms)) in
+              let same : line ≡ lineText (wordOf c (place layer round)) (take len (drop at ms)) =
+              ap (λ (i : ℕ). lineText (wordOf c (place layer round)) (take i (drop at ms))) (cut ∙ e) in
+              let behind : drop (at + w) ms ≡ drop len (drop at ms) = ap (λ (i : ℕ). drop (at + i) ms) e ∙ sym (drop-drop len at ms) in
+              record {
+                coins = b .coins + 1;
+                stands =
+                    loops.round-next c legal (Left text at to) layer round (b .coins) (b .stands) more (Left _ (at + w) (to + n))
+                    (record {
+                      done = left .done ++ line;
+                      wrote = wrote-more (left .done) before text to (left .wrote) line part n v;
+                      whole =
+                          append-assoc (left .done) line (messagesText c rest (drop (at + w) ms))
+                          ∙ ap₂ (λ (l : List ℕ) (ws : List ℕ). left .done ++ (l ++ messagesText c rest ws)) same behind
+                          ∙ left .whole;
+                      counted = omega (arith, left .counted, e, sum-cons len (map (messageLength c) rest));
+                    });
+              }
