@@ -1,11 +1,12 @@
-// The one judgement of a message, and the last comparison. The whole check and a session's step both judge by it. Every function is total; it
-// promises nothing where the list is no legal circuit or the coins are not those before the place.
+// The one judgement of a message, and the last comparison. The whole check and a session's step both judge by it. The public functions are
+// total; they promise nothing where the list is no legal circuit or the coins are not those before the place.
 use extension::MAX_COORDINATES;
 use field::Field;
 use refusal::Cause;
 use refusal::Checked;
 ghost use mathlib.Core.Path.{_≡_};
-ghost use Prim.Native.Nat.{_*_};
+ghost use Prim.Native.Nat.{_*_, _≤_};
+ghost use lib.ListN.{length};
 ghost use Rattle.refusal.specs.Number.{causeOf};
 ghost use Rattle.circuit.specs.Circuit.{exponentAt};
 ghost use Rattle.standing.specs.Standing.{AtRound};
@@ -15,6 +16,7 @@ ghost use Rattle.judgement.specs.Finished.{Finished};
 
 // The summand at the two points of a layer's line, with x and y for what the line gives at its ends.
 fn line_claim(circuit: &[u32], layer: usize, past: &[u32], x: u32, y: u32) -> u32
+    requires { ⌜ 1 ≤ length (now circuit) ⌝ }
     ensures { λ r. ⌜ (AtRound (now (circuit .entry)) layer (2 * exponentAt (now (circuit .entry)) layer) (now (past .entry)) → r ≡ lineClaim (now (circuit .entry)) layer (pointAt (now (circuit .entry)) layer (now (past .entry))) (fixed (now (circuit .entry)) layer (now (past .entry))) x y) ⌝ }
 {
     let round = 2 * standing::exponent(circuit, layer) as usize;
@@ -26,15 +28,16 @@ fn line_claim(circuit: &[u32], layer: usize, past: &[u32], x: u32, y: u32) -> u3
     let u = s.u;
     let v = s.v;
     let points = [u, v];
-    let f = Field::of(lists::word(circuit, 0));
+    let f = Field::of(circuit[0]);
     summand::combined(f, &circuit[from..to], &point[..above], points, s.own, x, y)
 }
 
 // What a message gives that must equal the standing claim.
 fn compared(circuit: &[u32], layer: usize, round: usize, past: &[u32], message: &[u32]) -> u32
+    requires { ⌜ 1 ≤ length (now circuit) ⌝ }
     ensures { λ r. ⌜ (AtRound (now (circuit .entry)) layer round (now (past .entry)) → r ≡ compared (now (circuit .entry)) (isLine (now (circuit .entry)) (place layer round)) (place layer round) (now (past .entry)) (now (message .entry))) ⌝ }
 {
-    let f = Field::of(lists::word(circuit, 0));
+    let f = Field::of(circuit[0]);
     let x = polynomial::value_at(f, message, 0);
     let y = polynomial::value_at(f, message, 1);
     if standing::is_line(circuit, layer, round) {
@@ -54,10 +57,13 @@ pub fn judge(
 ) -> Checked
     ensures { λ r. ⌜ (AtRound (now (circuit .entry)) layer round (now (past .entry)) → causeOf r ≡ judge (now (circuit .entry)) (place layer round) (now (past .entry)) claim (now (message .entry))) ⌝ }
 {
+    if circuit.len() < 1 {
+        return Checked::Refused(Cause::HeaderShort);
+    }
     if message.len() != standing::message_length(circuit, layer, round) {
         return Checked::Refused(Cause::MessageLength);
     }
-    if !legality::all_below(message, lists::word(circuit, 0)) {
+    if !legality::all_below(message, circuit[0]) {
         return Checked::Refused(Cause::MessageWord);
     }
     if compared(circuit, layer, round, past, message) == claim {

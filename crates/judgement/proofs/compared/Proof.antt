@@ -1,6 +1,6 @@
 -- `compared` meets its contract: the message's values at 0 and at 1 are modulo the circuit's prime.
 -- Assumes nothing.
-use Prim.Native.Nat.{ℕ, _-_}
+use Prim.Native.Nat.{ℕ}
 use mathlib.Core.Path.{_≡_, sym, ap, _∙_}
 use mathlib.Core.Bool.{true}
 use Rattle.algebra.specs.Numbers.{words}
@@ -12,8 +12,8 @@ use borrow.Author.Needs.{needs}
 use Rattle.judgement.proofs.compared.Statement.{statement}
 use Rattle.judgement.proofs.compared.Tie as tie
 
-word-requires : tie.Need-word-requires
-word-requires c κs = search needs
+shared-slice-read-of : tie.Need-shared-slice-read-of
+shared-slice-read-of c = search needs
 
 of-requires : tie.Need-of-requires
 of-requires c κs = search needs
@@ -37,7 +37,7 @@ returns c h =
     let past = start .args .past .now in
     let m = start .args .message .now in
     let r = place (start .args .layer) (start .args .round) in
-    let f = prime-modulus l (h .legal) _ (c .before .before .before .before .before .of .ensures ∙ ap (λ (p : ℕ). p - 1) (c .before .before .before .before .before .before .word .ensures)) in
+    let f = prime-modulus l (h .legal) _ (c .before .before .before .before .before .of .ensures) in
     let x = c .before .before .before .before .value-at in
     let y = c .before .before .before .value-at2 in
     let ex = x .ensures ∙ ap (λ (p : ℕ). valueAt (words p) m 0) f in
@@ -55,7 +55,7 @@ returns-2 c h =
     let past = start .args .past .now in
     let m = start .args .message .now in
     let r = place (start .args .layer) (start .args .round) in
-    let f = prime-modulus l (h .legal) _ (c .before .before .before .before .before .of .ensures ∙ ap (λ (p : ℕ). p - 1) (c .before .before .before .before .before .before .word .ensures)) in
+    let f = prime-modulus l (h .legal) _ (c .before .before .before .before .before .of .ensures) in
     let x = c .before .before .before .before .value-at in
     let y = c .before .before .before .value-at2 in
     let ex = x .ensures ∙ ap (λ (p : ℕ). valueAt (words p) m 0) f in
@@ -67,7 +67,7 @@ pub compared-spec : {M : Type 1} → statement M
 compared-spec =
     tie.close
     (tie.spec
-    word-requires
+    shared-slice-read-of
     of-requires
     value-at-requires
     value-at-requires-2

@@ -27,8 +27,8 @@ mul-round c = search needs
 at-round-requires : tie.Need-at-round-requires
 at-round-requires c κs = search needs
 
-word-requires : tie.Need-word-requires
-word-requires c κs = search needs
+shared-slice-read-of : tie.Need-shared-slice-read-of
+shared-slice-read-of c = search needs
 
 of-requires : tie.Need-of-requires
 of-requires c κs = search needs
@@ -70,7 +70,7 @@ returns c h =
     let past = start .args .past .now in
     let st = own .at-round .result in
     let t = stood l (start .args .layer) (own .before .exponent .result) past st h (own .before .exponent .ensures) (own .at-round .ensures .1) in
-    let f = prime-modulus l (h .legal) _ (c .before .before .before .of .ensures ∙ ap (λ (p : ℕ). p - 1) (c .before .before .before .before .word .ensures)) in
+    let f = prime-modulus l (h .legal) _ (c .before .before .before .of .ensures) in
     line-claim l (start .args .layer) past h st t (start .args .x) (start .args .y) (c .combined .result)
     (c .combined .ensures
     ∙ ap (λ (p : ℕ). combined (words p) (gatesIn (take (st .to - st .from) (drop (st .from) l))) (take (st .above) (st .point)) (take (st .own) (st .u)) (take (st .own) (st .v)) (start .args .x) (start .args .y)) f)
@@ -83,7 +83,7 @@ line-claim-spec =
     cast-round
     mul-round
     at-round-requires
-    word-requires
+    shared-slice-read-of
     of-requires
     mul-combined
     sub-combined
