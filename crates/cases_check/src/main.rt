@@ -12,10 +12,10 @@
 // A line is `accepted`, `opened`, `go on` and the coin, or `refused` and the number. After an opening and after every step the record
 // follows: its layer, round and claim, and `open` or `ended`. The line of a count is `accepted on` and how many.
 use libc::STDOUT_FILENO;
-use verifier::Opening;
+use session::Opening;
+use session::Session;
+use session::Verdict;
 use verifier::Outcome;
-use verifier::Session;
-use verifier::Verdict;
 ghost use Prim.Native.Nat.{_≤_};
 
 const CHECK: u32 = 1;
@@ -58,7 +58,7 @@ fn check(circuit: &[u32], input: &[u32], output: u32, coins: &[u32], messages: &
 }
 
 fn open(circuit: &[u32], input: &[u32], output: u32, coins: &[u32]) {
-    match verifier::open(circuit, input, output, coins) {
+    match session::open(circuit, input, output, coins) {
         Opening::Opened(session) => {
             io::write_all(STDOUT_FILENO, b"opened");
             print_record(session);
@@ -70,7 +70,7 @@ fn open(circuit: &[u32], input: &[u32], output: u32, coins: &[u32]) {
 }
 
 fn step(circuit: &[u32], input: &[u32], coins: &[u32], session: Session, message: &[u32]) {
-    let stepped = verifier::step(circuit, input, coins, session, message);
+    let stepped = session::step(circuit, input, coins, session, message);
     let verdict = stepped.verdict;
     match verdict {
         Verdict::Accepted => {

@@ -17,9 +17,9 @@
 use libc::STDOUT_FILENO;
 use prover::Message;
 use prover::Proved;
-use verifier::Opening;
+use session::Opening;
+use session::Verdict;
 use verifier::Outcome;
-use verifier::Verdict;
 ghost use Prim.Native.Nat.{_≤_};
 
 const PROVE: u32 = 1;
@@ -171,13 +171,13 @@ fn stepped(circuit: &[u32], input: &[u32], output: u32, coins: &[u32], messages:
     let first = &messages[0..3];
     let second = &messages[3..6];
     let third = &messages[6..];
-    let opening = verifier::open(circuit, input, output, coins);
+    let opening = session::open(circuit, input, output, coins);
     let Opening::Opened(opened) = opening else {
         return 0;
     };
-    let session = verifier::step(circuit, input, coins, opened, first).session;
-    let session = verifier::step(circuit, input, coins, session, second).session;
-    let verdict = verifier::step(circuit, input, coins, session, third).verdict;
+    let session = session::step(circuit, input, coins, opened, first).session;
+    let session = session::step(circuit, input, coins, session, second).session;
+    let verdict = session::step(circuit, input, coins, session, third).verdict;
     match verdict {
         Verdict::Accepted => 1,
         Verdict::GoOn(_) => 0,

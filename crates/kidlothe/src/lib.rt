@@ -4,15 +4,15 @@ use evaluation::Evaluated;
 use prover::Message;
 use prover::Proved;
 use refusal::Checked;
-use verifier::Opening;
+use session::Opening;
+use session::Session;
+use session::Verdict;
 use verifier::Outcome;
-use verifier::Session;
-use verifier::Verdict;
 use xdr::Arrays;
 ghost use mathlib.Core.Path.{_≡_};
 ghost use Rattle.circuit.specs.Legal.{loadAnswer};
 ghost use Rattle.protocol.specs.Check.{checkAnswer};
-ghost use Rattle.verifier.specs.Answers.{recordOf, verdictOf};
+ghost use Rattle.session.specs.Answers.{recordOf, verdictOf};
 ghost use Rattle.kidlothe.specs.Record.{sessionOf, sessionWords, stepWords};
 ghost use Rattle.kidlothe.specs.Answers.{plainStep, ExportsEvaluate, ExportsRead, ExportsProve, ExportsProveOne, ExportsOpen, ExportsStep};
 
@@ -230,7 +230,7 @@ pub extern "C" fn kidlothe_open(
 ) -> u32
     ensures { λ r. ⌜ ExportsOpen (now (circuit .entry)) (now (input .entry)) output (now (coins .entry)) (now (session .entry)) r (now (session .exit)) ⌝ }
 {
-    let opening = verifier::open(circuit, input, output, coins);
+    let opening = session::open(circuit, input, output, coins);
     match opening {
         Opening::Opened(opened) => {
             *session = session_words(opened);
@@ -275,7 +275,7 @@ pub extern "C" fn kidlothe_step(
     ensures { λ r. ⌜ ExportsStep (now (circuit .entry)) (now (input .entry)) (now (coins .entry)) (now (session .entry)) (now (message .entry)) r (now (session .exit)) ⌝ }
 {
     let before = session_of(session);
-    let stepped = verifier::step(circuit, input, coins, before, message);
+    let stepped = session::step(circuit, input, coins, before, message);
     let after = stepped.session;
     let verdict = stepped.verdict;
     *session = step_words(session, after);

@@ -9,10 +9,8 @@ use native.Mathlib.Omega.{arith}
 use native.Mathlib.Decide.{decLe}
 use lib.ListN.{length, take, drop, getD, length-append, length-map, length-drop, List·getD-append}
 use lib.Seq.{length-take-le, getD-take, getD-drop, getD-append-add}
-use Rattle.lists.specs.Each.{All}
-use Rattle.lists.proofs.Each.{all-append}
 use Rattle.lists.proofs.Map.{map-append, getD-map-lt}
-use Rattle.algebra.specs.Numbers.{Numbers, words}
+use Rattle.algebra.specs.Numbers.{Numbers}
 use Rattle.algebra.specs.Hom.{Hom}
 use Rattle.algebra.proofs.Hom.{hom-sub, hom-mul}
 use Rattle.multilinear.specs.Extension.{bits, weightOfBits, weight, between, corner, blend, fold}
@@ -21,7 +19,6 @@ use Rattle.multilinear.proofs.Weight.{weight-low, weight-high}
 use Rattle.multilinear.proofs.Extension.{half, length-corner, at-corner}
 use Rattle.multilinear.proofs.Linear.{first-fixed}
 use Rattle.multilinear.proofs.Hom.{hom-fold}
-use Rattle.multilinear.proofs.Words.{between-below, scaled-below}
 
 -- THE WEIGHT LIST
 module _ {C : Type 0} (N : Numbers C) where
@@ -149,26 +146,3 @@ module _ {C D : Type 0} {N : Numbers C} {M : Numbers D} {h : C → D} where
   unfolding folded
   folded-kept H [] vs = refl
   folded-kept H (r ∷ xs) vs = folded-kept H xs (fold N r vs) ∙ ap (folded M (map h xs)) (hom-fold H r vs)
-
--- ON WORDS the entries are words below p: weights where there are at least two residues, and a table's where its own are
-pub weights-below : (p : ℕ) → 1 < p → (zs : List ℕ) → All (λ w. w < p) (weights (words p) zs)
-unfolding weights
-weights-below p more [] = (more, tt)
-weights-below p more (z ∷ zs) =
-    let pos : 0 < p = omega arith in
-    let ws = weights (words p) zs in
-    all-append (λ w. w < p) (map (λ w. words p .mul (words p .sub 1 z) w) ws) (map (λ w. words p .mul z w) ws)
-    (scaled-below p pos (words p .sub 1 z) ws) (scaled-below p pos z ws)
-
-module _ (p : ℕ) (pos : 0 < p) where
-  blend-below : (r : ℕ) (low high : List ℕ) → All (λ v. v < p) (blend (words p) r low high)
-  unfolding blend
-  blend-below r [] high = tt
-  blend-below r (a ∷ low) [] = tt
-  blend-below r (a ∷ low) (b ∷ high) = (between-below p pos r a b, blend-below r low high)
-
-  pub folded-below : (xs vs : List ℕ) → All (λ v. v < p) vs → All (λ v. v < p) (folded (words p) xs vs)
-  unfolding folded fold
-  folded-below [] vs h = h
-  folded-below (r ∷ xs) vs h =
-      folded-below xs (fold (words p) r vs) (blend-below r (take (length vs / 2) vs) (drop (length vs / 2) vs))

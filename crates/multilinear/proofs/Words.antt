@@ -10,7 +10,7 @@ use Rattle.algebra.specs.Numbers.{words}
 use Rattle.algebra.specs.Polynomial.{plus, times, polynomials}
 use Rattle.algebra.specs.Residue.{residue, residues}
 use Rattle.algebra.proofs.Residue.{residues-ring, residue-hom, residue-injective}
-use Rattle.multilinear.specs.Extension.{bits, weightOfBits, weight, sumFrom, extension, between, halving, corner, fold}
+use Rattle.multilinear.specs.Extension.{bits, weightOfBits, weight, sumFrom, extension, halving, corner, fold}
 use Rattle.multilinear.specs.Theorems.{HalvingOnWords, AtCornerOnWords, FirstFixedOnWords, Below, OneValue, CoefficientsBelow}
 use Rattle.multilinear.proofs.Extension.{halving-is-extension, at-corner}
 use Rattle.multilinear.proofs.Hom.{hom-getD, hom-extension, hom-halving, hom-fold, hom-corner}
@@ -21,9 +21,6 @@ module _ (p : ℕ) (pos : 0 < p) where
   unfolding sumFrom
   sumFrom-below f a [] = pos
   sumFrom-below f a (x ∷ l) = mod-lt _ pos
-
-  pub between-below : (r low high : ℕ) → between (words p) r low high < p
-  between-below r low high = mod-lt _ pos
 
   pub halving-below : (vs z : List ℕ) → All (λ v. v < p) vs → halving (words p) vs z < p
   unfolding halving

@@ -28,7 +28,8 @@ use Rattle.protocol.proofs.Points.{start-next}
 use Rattle.protocol.proofs.Places.{place-at}
 use Rattle.standing.specs.Standing.{AtRound}
 use Rattle.standing.proofs.Coins.{so-far, sum-all, sum-start, sum-coins}
-use Rattle.prover.specs.Writing.{valuesIn, Follows}
+use Rattle.messages.specs.Writing.{valuesIn}
+use Rattle.prover.specs.Writing.{Follows}
 use Rattle.prover.specs.Answers.{ProvesOne}
 use Rattle.prover.specs.declared.Place.{Place as At}
 use Rattle.prover.specs.declared.Message.the-variants.{Written, Refused}

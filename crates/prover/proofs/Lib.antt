@@ -1,4 +1,3 @@
-pub mod Rows
 pub mod Values
 pub mod Following
 pub mod Transcripts

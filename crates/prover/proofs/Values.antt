@@ -1,6 +1,6 @@
 -- Where a layer's values stand among those of all layers, and that its messages can be written from them.
 -- Assumes nothing.
-use Prim.Native.Nat.{ℕ, zero, suc, _+_, _-_, _*_, _^_, _≤_, _<_}
+use Prim.Native.Nat.{ℕ, zero, suc, _+_, _^_, _≤_, _<_}
 use mathlib.Core.Path.{_≡_, sym, ap, ap₂, _∙_, subst}
 use mathlib.Core.List.{List, [], _++_, map, flatten}
 use lib.Pow.{pow-pos}
@@ -15,14 +15,13 @@ use Rattle.lists.proofs.Each.{all-at}
 use Rattle.lists.specs.Buffer.{over}
 use Rattle.lists.proofs.Buffer.{length-over, take-over}
 use Rattle.lists.proofs.Parts.{flatten-part, length-flatten}
-use Rattle.algebra.specs.Numbers.{words}
-use Rattle.circuit.specs.Limits.{maxDepth, maxValues}
-use Rattle.circuit.specs.Circuit.{primeOf, depth, exponents, exponentAt, outputExponent, widthOf, gateCount, inputExponent, valueCount}
+use Rattle.circuit.specs.Limits.{maxValues}
+use Rattle.circuit.specs.Circuit.{primeOf, depth, exponents, exponentAt, outputExponent, gateCount, inputExponent, valueCount}
 use Rattle.circuit.specs.Legal.{listsCause}
 use Rattle.circuit.specs.Sized.{LegalCircuit}
 use Rattle.circuit.specs.Values.{layers, valuesAt, value}
 use Rattle.circuit.proofs.Loading.{legal-lists}
-use Rattle.circuit.proofs.Sized.{deep, width-small}
+use Rattle.circuit.proofs.Sized.{deep}
 use Rattle.circuit.proofs.Layers.{layer-sizes, values-are-residues, length-all-layers}
 use Rattle.evaluation.specs.Layer.{AllValues}
 use Rattle.evaluation.specs.Evaluate.{Evaluates, evaluateCause, evaluateBuffer}
@@ -31,10 +30,9 @@ use Rattle.evaluation.proofs.Answering.{total-room}
 use Rattle.evaluation.proofs.Evaluating.{output-first}
 use Rattle.protocol.specs.Rounds.{place}
 use Rattle.protocol.specs.Judge.{messageLength}
-use Rattle.standing.specs.Standing.{AtRound, GatesBefore}
-use Rattle.standing.proofs.Gates.{count-none, count-more, exponent-width}
-use Rattle.standing.proofs.Rounds.{own-layer}
-use Rattle.prover.specs.Writing.{valuesIn, Writable}
+use Rattle.standing.specs.Standing.{AtRound}
+use Rattle.standing.proofs.Gates.{count-none, count-more}
+use Rattle.messages.specs.Writing.{valuesIn, Writable}
 
 -- a part of a list's front is a part of the list
 part-of-front : (n m : ℕ) (front back : List ℕ) → m + n ≤ length front → take n (drop m (front ++ back)) ≡ take n (drop m front)
@@ -122,30 +120,3 @@ module _ (c input : List ℕ) (e : listsCause c input ≡ 0) where
               (all-at (λ (vs : List ℕ). All (λ v. v < primeOf c) vs) (layers c input) layer [] (omega (arith, length-all-layers c input legal)) (values-are-residues c input e));
           room = room;
         }
-
--- the part of all values that the code takes for a layer
-module _ (c : List ℕ) (layer round : ℕ) (past values buffer : List ℕ) (h : Writable c layer round past (valuesIn c layer values) buffer) (from k w : ℕ)
-    (before : GatesBefore c layer from) (ek : k ≡ exponentAt c layer) (ew : w ≡ widthOf k) where
-  at-from : from ≡ gateCount outputExponent (take layer (exponents c))
-  at-from = before .counted (h .there .legal) (h .there .last)
-
-  wide : w ≡ 2 ^ exponentAt c layer
-  wide = ew ∙ ap widthOf ek ∙ exponent-width c layer (own-layer c layer round past (h .there))
-
-  pub part-small : from + w ≤ 256 * maxDepth + 256
-  part-small = omega (arith, before .few, ew, width-small k)
-
-  pub part-inside : from + w ≤ length values
-  part-inside =
-      let n : ℕ = 2 ^ exponentAt c layer in
-      let m : ℕ = gateCount outputExponent (take layer (exponents c)) in
-      let some : 0 < n = pow-pos (exponentAt c layer) in
-      omega (arith, at-from, wide, some, h .sized, length-take n (drop m values), length-drop m values)
-
-  pub part-values : take (from + w - from) (drop from values) ≡ valuesIn c layer values
-  part-values =
-      let cut : from + w - from ≡ w = omega arith in
-      ap₂ (λ (n m : ℕ). take n (drop m values)) (cut ∙ wide) at-from
-
-  pub part-writable : Writable c layer round past (take (from + w - from) (drop from values)) buffer
-  part-writable = subst (λ (vs : List ℕ). Writable c layer round past vs buffer) (sym part-values) h

@@ -1,31 +1,17 @@
 -- Conditions that the inner functions share, and what they write.
 -- Assumes nothing.
-use Prim.Native.Nat.{ℕ, _+_, _*_, _^_, _≤_, _<_}
+use Prim.Native.Nat.{ℕ, _+_, _*_, _≤_}
 use mathlib.Core.Path.{_≡_}
 use mathlib.Core.List.{List}
-use lib.ListN.{length, take, drop, getD}
-use Rattle.lists.specs.Each.{All}
+use lib.ListN.{length, getD}
 use Rattle.lists.specs.Buffer.{over}
-use Rattle.circuit.specs.Circuit.{primeOf, depth, exponents, exponentAt, outputExponent, gateCount, coinCount, messageWords}
+use Rattle.circuit.specs.Circuit.{depth, exponentAt, coinCount, messageWords}
 use Rattle.circuit.specs.Legal.{listsCause}
 use Rattle.circuit.specs.Values.{value}
 use Rattle.protocol.specs.Rounds.{place, rounds, layerStart}
-use Rattle.protocol.specs.Judge.{messageLength}
 use Rattle.protocol.specs.Prove.{honest, transcript}
-use Rattle.standing.specs.Standing.{AtRound}
 use Rattle.prover.specs.declared.Proof.{Proof}
 use Rattle.prover.specs.declared.Place.{Place}
-
--- a layer's values in a list of all layers' values
-abbrev pub valuesIn : List ℕ → ℕ → List ℕ → List ℕ
-valuesIn c layer values = take (2 ^ exponentAt c layer) (drop (gateCount outputExponent (take layer (exponents c))) values)
-
--- a round's message can be written: its layer has these values, and the buffer has room
-pub record Writable (c : List ℕ) (layer round : ℕ) (past vs buffer : List ℕ) : Type 0 where
-  pub there : AtRound c layer round past
-  pub sized : length vs ≡ 2 ^ exponentAt c layer
-  pub residues : All (λ v. v < primeOf c) vs
-  pub room : messageLength c (place layer round) ≤ length buffer
 
 -- nothing is refused: all messages can be written
 pub record Provable (c input cs buffer : List ℕ) : Type 0 where

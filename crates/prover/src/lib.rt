@@ -1,20 +1,14 @@
 // The prover: the honest messages, all of them or the one that follows a coin prefix.
-use evaluation::Evaluated;
 use evaluation::MAX_VALUES;
-use field::Field;
 use refusal::Cause;
 use refusal::Checked;
 ghost use mathlib.Core.Path.{_≡_};
-ghost use mathlib.Core.Bool.{true, false};
 ghost use Prim.Native.Nat.{_<_};
-ghost use Rattle.lists.specs.Buffer.{over};
 ghost use Rattle.circuit.specs.Circuit.{coinCount};
 ghost use Rattle.circuit.specs.Legal.{listsCause};
 ghost use Rattle.circuit.specs.Sized.{LegalCircuit};
 ghost use Rattle.evaluation.specs.Layer.{AllValues};
-ghost use Rattle.protocol.specs.Rounds.{place, isLine};
-ghost use Rattle.protocol.specs.Prove.{messageFrom};
-ghost use Rattle.prover.specs.Writing.{valuesIn, Writable, Provable, Writes, Follows};
+ghost use Rattle.prover.specs.Writing.{Provable, Writes, Follows};
 ghost use Rattle.prover.specs.Answers.{Proves, ProvesOne};
 
 // An output, and the number of message words that were written for it.
@@ -33,83 +27,6 @@ pub enum Proved {
 pub enum Message {
     Written(usize),
     Refused(Cause),
-}
-
-// Writes the message of a sum round to the buffer's front, from the values of its layer.
-fn write_sum(
-    circuit: &[u32],
-    layer: usize,
-    round: usize,
-    past: &[u32],
-    values: &[u32],
-    buffer: &mut [u32],
-)
-    requires { ⌜ Writable (now circuit) layer round (now past) (now values) (now buffer) × (isLine (now circuit) (place layer round) ≡ false) ⌝ }
-    ensures { λ _. ⌜ now (buffer .exit) ≡ over (messageFrom (now (circuit .entry)) (now (values .entry)) (place layer round) (now (past .entry))) (now (buffer .entry)) ⌝ }
-{
-    let s = standing::at_round(circuit, layer, round, past);
-    let from = s.from;
-    let to = s.to;
-    let point = s.point;
-    let u = s.u;
-    let v = s.v;
-    let points = [u, v];
-    let f = Field::of(circuit[0]);
-    let words = sums::sum_message(
-        f,
-        &circuit[from..to],
-        point,
-        s.above,
-        values,
-        points,
-        s.own,
-        round,
-    );
-    lists::put(buffer, &words[..3]);
-}
-
-// Writes a layer's line message to the buffer's front.
-fn write_line(
-    circuit: &[u32],
-    layer: usize,
-    round: usize,
-    past: &[u32],
-    values: &[u32],
-    buffer: &mut [u32],
-)
-    requires { ⌜ Writable (now circuit) layer round (now past) (now values) (now buffer) × (isLine (now circuit) (place layer round) ≡ true) ⌝ }
-    ensures { λ _. ⌜ now (buffer .exit) ≡ over (messageFrom (now (circuit .entry)) (now (values .entry)) (place layer round) (now (past .entry))) (now (buffer .entry)) ⌝ }
-{
-    let s = standing::at_round(circuit, layer, round, past);
-    let own = s.own;
-    let u = s.u;
-    let v = s.v;
-    let points = [u, v];
-    let f = Field::of(circuit[0]);
-    let words = line::line_message(f, values, points, own);
-    let count = standing::message_length(circuit, layer, round);
-    lists::put(buffer, &words[..count]);
-}
-
-// Writes the message of a round to the buffer's front, from the values of all layers and the coins before it. Both forms of the proof write by it.
-fn write_message(
-    circuit: &[u32],
-    layer: usize,
-    round: usize,
-    past: &[u32],
-    values: &[u32],
-    buffer: &mut [u32],
-)
-    requires { ⌜ Writable (now circuit) layer round (now past) (valuesIn (now circuit) layer (now values)) (now buffer) ⌝ }
-    ensures { λ _. ⌜ now (buffer .exit) ≡ over (messageFrom (now (circuit .entry)) (valuesIn (now (circuit .entry)) layer (now (values .entry))) (place layer round) (now (past .entry))) (now (buffer .entry)) ⌝ }
-{
-    let from = standing::gates_before(circuit, layer);
-    let to = from + legality::width(standing::exponent(circuit, layer));
-    if standing::is_line(circuit, layer, round) {
-        write_line(circuit, layer, round, past, &values[from..to], buffer);
-        return;
-    }
-    write_sum(circuit, layer, round, past, &values[from..to], buffer);
 }
 
 // The values of all layers, the output's first.
@@ -132,7 +49,7 @@ fn write_all(circuit: &[u32], input: &[u32], coins: &[u32], messages: &mut [u32]
     let mut at = 0;
     for layer in 1..circuit[1] as usize + 1 {
         for round in 0..2 * standing::exponent(circuit, layer) as usize + 1 {
-            write_message(
+            messages::write_message(
                 circuit,
                 layer,
                 round,
@@ -211,7 +128,7 @@ pub fn prove_one(circuit: &[u32], input: &[u32], prefix: &[u32], buffer: &mut [u
         return Message::Refused(Cause::BufferShort);
     }
     let values = all_values(circuit, input);
-    write_message(
+    messages::write_message(
         circuit,
         place.layer,
         place.round,

@@ -15,7 +15,7 @@ use Rattle.summand.specs.Gates.{gatesIn}
 use Rattle.protocol.specs.Rounds.{layerStart}
 use Rattle.protocol.specs.Judge.{fixed, pointAt, gatesAbove}
 use Rattle.protocol.proofs.Points.{point-more}
-use Rattle.standing.specs.Standing.{AtLayer, AtRound, Row, Stands, gatesFrom}
+use Rattle.standing.specs.Standing.{AtLayer, AtRound, Row, Within, Stands, gatesFrom}
 use Rattle.standing.specs.declared.Stand.{Stand}
 use Rattle.standing.proofs.Gates.{exponent-small, gates-at, gates-next, gates-room}
 use Rattle.standing.proofs.Points.{least-front, least-rest, row-whole, point-length}
@@ -36,6 +36,15 @@ gates-in c h l from to n ef et =
     ∙ ap (λ (i : ℕ). gatesOf i (take (3 * w) ws)) third
     ∙ gates-part w (3 * w) ws (omega arith)
     ∙ ap (λ (j : ℕ). gatesOf w (drop j c)) ef ∙ gates-at c h l n
+
+-- nothing is inside any list
+pub nothing-within : (c : List ℕ) (s : Stand) → (s .above ≡ 0) × (s .own ≡ 0) × (s .from ≡ 0) × (s .to ≡ 0) → Within c s
+nothing-within c s none = record {
+  above = omega (arith, none .0);
+  own = omega (arith, none .1);
+  ordered = omega (arith, none .2, none .3);
+  inside = omega (arith, none .3);
+}
 
 module _ (c : List ℕ) (layer round : ℕ) (past : List ℕ) (h : AtRound c layer round past) where
   pub own-layer : LayerOf c layer
@@ -81,23 +90,24 @@ module _ (c : List ℕ) (layer round : ℕ) (past : List ℕ) (h : AtRound c lay
 
   -- the rows' coordinates, and that they are there
   module _ (s : Stand) (t : Stands c layer past s) where
-    pub above-fits : s .above ≤ length (s .point)
-    above-fits = let low = exponent-small c (layer - 1) above-layer in omega (arith, low, t .above, t .point .size)
-
     pub above-point : take (s .above) (s .point) ≡ pointAt c layer past
     above-point = ap (λ (n : ℕ). take n (s .point)) (t .above ∙ sym point-size) ∙ t .point .holds
 
   module _ (s : Stand) (start first : ℕ) (es : start ≡ length past - round) (ef : first ≡ min round (s .own)) where
-    pub stands : s .own ≡ exponentAt c layer → s .above ≡ exponentAt c (layer - 1) → s .from ≡ gatesFrom c (layer - 1) → s .to ≡ gatesFrom c layer
+    pub stands : s .own ≡ min (exponentAt c layer) maxExponent → s .above ≡ min (exponentAt c (layer - 1)) maxExponent
+        → s .from ≡ min (gatesFrom c (layer - 1)) (s .to) → s .to ≡ min (gatesFrom c layer) (length c)
         → Row (take maxExponent (take (start + first - start) (drop start past))) (s .u) → Row (take maxExponent (drop (start + first) past)) (s .v)
         → (AtLayer c layer (take start past) → Row (pointAt c layer (take start past)) (s .point)) → Stands c layer past s
-    stands ek ea from to row₁ row₂ point =
+    stands cut-own cut-above cut-from cut-to row₁ row₂ point =
         let low : layer ≤ depth c = h .last in
         let some : 1 ≤ layer = h .first in
         let at : start ≡ layerStart c layer = omega (arith, h .counted) in
         let xs : List ℕ = fixed c layer past in
         let k : ℕ = exponentAt c layer in
         let small : k ≤ maxExponent = own-small in
+        let ek : s .own ≡ k = omega (arith, cut-own) in
+        let wide : exponentAt c (layer - 1) ≤ maxExponent = exponent-small c (layer - 1) above-layer in
+        let ea : s .above ≡ exponentAt c (layer - 1) = omega (arith, cut-above) in
         let reached : round ≤ 2 * k = h .reached in
         let size : length xs ≡ round = own-coins in
         let fewer = ef ∙ ap (λ (n : ℕ). min n (s .own)) (sym size) in
@@ -108,15 +118,14 @@ module _ (c : List ℕ) (layer round : ℕ) (past : List ℕ) (h : AtRound c lay
         ap (λ (i : ℕ). drop (i + first) past) at ∙ sym (drop-drop first (layerStart c layer) past) ∙ least-rest (s .own) xs first fewer ∙ ap (λ (n : ℕ). drop n xs) ek in
         let l : ℕ = layer - 1 in
         let up : suc l ≡ layer = omega arith in
-        let to′ : s .to ≡ gatesFrom c (suc l) = to ∙ ap (gatesFrom c) (sym up) in
         let next = gates-next c (h .legal) l (omega arith) in
         let room = gates-room c (h .legal) l (omega arith) in
+        let to : s .to ≡ gatesFrom c (suc l) = omega (arith, cut-to, ap (gatesFrom c) up, next, room) in
+        let from : s .from ≡ gatesFrom c l = omega (arith, cut-from, next) in
         record {
           above = ea;
           own = ek;
-          ordered = omega (arith, from, to′, next);
-          inside = omega (arith, from, to′, next, room);
-          gates = gates-in c (h .legal) l (s .from) (s .to) (omega arith) from to′ ∙ gates-above l refl;
+          gates = gates-in c (h .legal) l (s .from) (s .to) (omega arith) from to ∙ gates-above l refl;
           point = subst (λ (z : List ℕ). Row z (s .point)) (ap (λ (i : ℕ). pointAt c layer (take i past)) at ∙ same-point) (point (at-layer start at));
           first = row-whole (take k xs) (s .u) (omega (arith, length-take k xs, small)) (subst (λ (m : List ℕ). Row (take maxExponent m) (s .u)) eu row₁);
           second = row-whole (drop k xs) (s .v) (omega (arith, length-drop k xs, small, reached, size)) (subst (λ (m : List ℕ). Row (take maxExponent m) (s .v)) ev row₂);

@@ -52,12 +52,17 @@ pub record LayerSoFar (c : List ℕ) (layer : ℕ) : Type 0 where
 abbrev pub layerSum : ℕ → List ℕ → ℕ
 layerSum a ks = sum (map (λ k. a * k + 1) ks)
 
+-- the parts that a stand names are there
+pub record Within (c : List ℕ) (s : Stand) : Type 0 where
+  pub above : s .above ≤ maxExponent
+  pub own : s .own ≤ maxExponent
+  pub ordered : s .from ≤ s .to
+  pub inside : s .to ≤ length c
+
 -- what stands at a round
 pub record Stands (c : List ℕ) (layer : ℕ) (past : List ℕ) (s : Stand) : Type 0 where
   pub above : s .above ≡ exponentAt c (layer - 1)
   pub own : s .own ≡ exponentAt c layer
-  pub ordered : s .from ≤ s .to
-  pub inside : s .to ≤ length c
   pub gates : gatesIn (take (s .to - s .from) (drop (s .from) c)) ≡ gatesAbove c layer
   pub point : Row (pointAt c layer past) (s .point)
   pub first : Row (take (exponentAt c layer) (fixed c layer past)) (s .u)

@@ -15,7 +15,7 @@ ghost use Rattle.circuit.specs.Sized.{LegalCircuit};
 ghost use Rattle.protocol.specs.Rounds.{place, layerStart, isLine};
 ghost use Rattle.protocol.specs.Judge.{pointAt, messageLength};
 ghost use Rattle.protocol.specs.Check.{needCoins};
-ghost use Rattle.standing.specs.Standing.{AtLayer, AtRound, gatesFrom, GatesBefore, layerSum, LayerSoFar, Row, Stands};
+ghost use Rattle.standing.specs.Standing.{AtLayer, AtRound, gatesFrom, GatesBefore, layerSum, LayerSoFar, Row, Within, Stands};
 
 // The width exponent of a layer, 0 for one that the list has not.
 pub fn exponent(circuit: &[u32], layer: usize) -> u32
@@ -158,7 +158,7 @@ pub struct Stand {
 
 // What stands where there is no such round.
 fn nothing() -> Stand
-    ensures { λ r. ⌜ r .to ≡ 0 ⌝ }
+    ensures { λ r. ⌜ (r .above ≡ 0) × (r .own ≡ 0) × (r .from ≡ 0) × (r .to ≡ 0) ⌝ }
 {
     Stand {
         above: 0,
@@ -171,9 +171,10 @@ fn nothing() -> Stand
     }
 }
 
-// What stands at a round, from the coins before it.
+// What stands at a round, from the coins before it. Whatever the list, the parts that it names are there: the numbers are cut to the list's
+// length and to a row's.
 pub fn at_round(circuit: &[u32], layer: usize, round: usize, past: &[u32]) -> Stand
-    ensures { λ r. ⌜ (AtRound (now (circuit .entry)) layer round (now (past .entry)) → Stands (now (circuit .entry)) layer (now (past .entry)) r) ⌝ }
+    ensures { λ r. ⌜ Within (now (circuit .entry)) r × (AtRound (now (circuit .entry)) layer round (now (past .entry)) → Stands (now (circuit .entry)) layer (now (past .entry)) r) ⌝ }
 {
     if layer < 1 {
         return nothing();
@@ -181,14 +182,15 @@ pub fn at_round(circuit: &[u32], layer: usize, round: usize, past: &[u32]) -> St
     if past.len() < round {
         return nothing();
     }
-    let own = exponent(circuit, layer) as usize;
+    let own = lists::least(exponent(circuit, layer) as usize, MAX_COORDINATES);
     let start = past.len() - round;
     let middle = start + lists::least(round, own);
+    let to = lists::least(gates_from(circuit, layer), circuit.len());
     Stand {
-        above: exponent(circuit, layer - 1) as usize,
+        above: lists::least(exponent(circuit, layer - 1) as usize, MAX_COORDINATES),
         own,
-        from: gates_from(circuit, layer - 1),
-        to: gates_from(circuit, layer),
+        from: lists::least(gates_from(circuit, layer - 1), to),
+        to,
         point: standing_point(circuit, layer, &past[..start]),
         u: row(&past[start..middle]),
         v: row(&past[middle..]),

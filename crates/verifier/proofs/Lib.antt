@@ -1,7 +1,2 @@
-pub mod Judging
-pub mod Lines
-pub mod Opens
-pub mod Last
-pub mod Records
-pub mod Coming
+pub mod Checking
 pub mod Walking

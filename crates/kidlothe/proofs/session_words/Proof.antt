@@ -1,7 +1,7 @@
 -- `session_words` meets its contract: the words of an open record and of an ended one.
 -- Assumes nothing.
 use borrow.Author.Needs.{needs}
-use Rattle.verifier.specs.Answers.{recordOf}
+use Rattle.session.specs.Answers.{recordOf}
 use Rattle.kidlothe.proofs.Words.{words-open, words-ended}
 use Rattle.kidlothe.proofs.session_words.Statement.{statement}
 use Rattle.kidlothe.proofs.session_words.Tie as tie

@@ -2,7 +2,7 @@
 -- Assumes nothing.
 use mathlib.Core.Path.{sym, ap, _∙_}
 use Rattle.walk.specs.Session.{refused}
-use Rattle.verifier.specs.Answers.{verdictOf}
+use Rattle.session.specs.Answers.{verdictOf}
 use Rattle.kidlothe.specs.Answers.{plainStep}
 use borrow.Author.Needs.{needs}
 use Rattle.kidlothe.proofs.step_of.Statement.{statement}

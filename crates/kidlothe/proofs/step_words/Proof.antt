@@ -1,7 +1,7 @@
 -- `step_words` meets its contract: the fourth word tells whether the record was open.
 -- Assumes nothing.
 use mathlib.Core.Path.{_∙_}
-use Rattle.verifier.specs.Answers.{recordOf}
+use Rattle.session.specs.Answers.{recordOf}
 use Rattle.kidlothe.proofs.Words.{step-open, step-ended}
 use borrow.Author.Needs.{needs}
 use Rattle.kidlothe.proofs.step_words.Statement.{statement}

@@ -97,13 +97,7 @@ slice-aggregate-write-message : tie.Need-slice-aggregate-write-message
 slice-aggregate-write-message c = search needs
 
 write-message-requires : tie.Need-write-message-requires
-write-message-requires c κs =
-    let e = c .before .before .before .before .before .before in
-    let found = c .before .before .before .before .before .place-after in
-    let values = c .before .before .all-values in
-    let size = c .before .before .before .before .message-length .ensures in
-    writable _ _ (none (told e)) _ (values .ensures) _ _ _ _
-    (at-round _ (legal (told e)) _ _ (found .ensures)) (omega (arith, size, c .before .before .before .if3 .left))
+write-message-requires c κs = search needs
 
 same-length : tie.Need-same-length
 same-length c = search needs
@@ -116,7 +110,9 @@ returns-5 c =
     let size = at .before .message-length in
     let values = c .before .before .before .before .before .all-values in
     one-written _ _ _ _ (none (told e)) (few (e .before .before .before)) (residues e) _ (found .ensures)
-    _ _ _ (size .ensures) (at .if3 .left) (values .ensures) (c .before .before .write-message .ensures)
+    _ _ _ (size .ensures) (at .if3 .left) (values .ensures)
+    (c .before .before .write-message .ensures
+    (writable _ _ (none (told e)) _ (values .ensures) _ _ _ _ (at-round _ (legal (told e)) _ _ (found .ensures)) (omega (arith, size .ensures, at .if3 .left))))
 
 pub prove-one-spec : {M : Type 1} → statement M
 prove-one-spec =

@@ -16,8 +16,9 @@ use Rattle.evaluation.specs.Layer.{AllValues}
 use Rattle.protocol.specs.Judge.{messageLength}
 use Rattle.standing.specs.Standing.{AtRound}
 use Rattle.circuit.proofs.Loading.{legal-lists}
-use Rattle.prover.specs.Writing.{valuesIn, Writable, Provable}
-use Rattle.prover.proofs.Rows.{message-size}
+use Rattle.messages.specs.Writing.{valuesIn, Writable}
+use Rattle.messages.proofs.Rows.{message-size}
+use Rattle.prover.specs.Writing.{Provable}
 use Rattle.prover.proofs.Values.{layer-values, writable, output-of}
 use Rattle.prover.proofs.Transcripts.{BeforeLayer, BeforeRound, all-start, layer-ends, all-end, lent, lent-size, lent-layer, given-back, coins-there, round-place, same-size, at-inside, lent-room, next-round}
 use Rattle.prover.proofs.write_all.Statement.{statement}
@@ -161,7 +162,7 @@ part-write-message-end : tie.Need-part-write-message-end Inv-loop2 μ-loop2 Inv-
 part-write-message-end c = let fits = inside (c .before .before) in search needs
 
 write-message-requires : tie.Need-write-message-requires Inv-loop2 μ-loop2 Inv-loop μ-loop
-write-message-requires c κs = ready (c .before .before .before)
+write-message-requires c κs = search needs
 
 message-length-requires : tie.Need-message-length-requires Inv-loop2 μ-loop2 Inv-loop μ-loop
 message-length-requires c κs = search needs
@@ -197,7 +198,7 @@ loop2-again c =
       omega (arith, at .loop2 .inv .2),
       next-round _ _ _ _ (can o) _ _ _ _ _ (at .loop2 .inv .3) (more t) (c .message-length .result) (c .message-length .ensures)
           (ap (λ (vs : List ℕ). length (said vs)) (sym same) ∙ message-size _ _ _ _ _ (part t) (ready t))
-          _ (c .before .before .before .write-message .ensures ∙ ap (λ (vs : List ℕ). over (said vs) (part t)) same),
+          _ (c .before .before .before .write-message .ensures (ready t) ∙ ap (λ (vs : List ℕ). over (said vs) (part t)) same),
     )
 
 add-layer : tie.Need-add-layer Inv-loop2 μ-loop2 Inv-loop μ-loop

@@ -2,8 +2,8 @@
 -- Assumes nothing.
 use mathlib.Core.Path.{sym, ap, _∙_}
 use Rattle.circuit.proofs.Loading.{legal-lists}
-use Rattle.verifier.specs.Answers.{openingOf}
-use Rattle.verifier.proofs.Opens.{check-refused, opened-lists, opened-coins, check-length, check-walks}
+use Rattle.session.specs.Answers.{openingOf}
+use Rattle.verifier.proofs.Checking.{check-refused, opened-lists, opened-coins, check-length, check-walks}
 use borrow.Author.Needs.{needs}
 use Rattle.verifier.proofs.check.Statement.{statement}
 use Rattle.verifier.proofs.check.Tie as tie

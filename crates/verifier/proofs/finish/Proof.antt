@@ -1,7 +1,7 @@
 -- `finish` meets its contract, by the last comparison.
 -- Assumes nothing.
 use mathlib.Core.Path.{sym, _∙_}
-use Rattle.verifier.proofs.Last.{final-equal, final-differs}
+use Rattle.verifier.proofs.Checking.{final-equal, final-differs}
 use borrow.Author.Needs.{needs}
 use Rattle.verifier.proofs.finish.Statement.{statement}
 use Rattle.verifier.proofs.finish.Tie as tie
@@ -10,10 +10,10 @@ input-agrees-requires : tie.Need-input-agrees-requires
 input-agrees-requires c κs = search needs
 
 returns : tie.Need-returns
-returns c = final-equal _ (sym (c .before .input-agrees .ensures) ∙ search needs)
+returns c = final-equal _ (sym (c .before .input-agrees .ensures (c .before .before .before .before .before .pre)) ∙ search needs)
 
 returns-2 : tie.Need-returns-2
-returns-2 c = final-differs _ (sym (c .before .input-agrees .ensures) ∙ search needs)
+returns-2 c = final-differs _ (sym (c .before .input-agrees .ensures (c .before .before .before .before .before .pre)) ∙ search needs)
 
 pub finish-spec : {M : Type 1} → statement M
 finish-spec = tie.close (tie.spec input-agrees-requires returns returns-2)

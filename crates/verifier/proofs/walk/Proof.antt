@@ -14,6 +14,7 @@ use Rattle.circuit.specs.Circuit.{depth as depthOf}
 use Rattle.circuit.specs.Sized.{LegalCircuit}
 use Rattle.protocol.specs.Rounds.{place}
 use Rattle.protocol.specs.Judge.{messageLength}
+use Rattle.standing.specs.Standing.{AtRound}
 use Rattle.circuit.proofs.Layers.{prime-modulus}
 use Rattle.circuit.proofs.Loading.{legal-lists}
 use Rattle.verifier.proofs.Walking.{BeforeLayer, BeforeRound, walk-starts, layer-starts, layer-ends, walk-ends, coin-there, words-there, round-place, round-passes, round-refuses}
@@ -60,6 +61,9 @@ more t = subst (λ (i : ℕ). t .before .loop .round < i) (t .before .loop .inv 
 
 coin : (t : Turn) → t .before .loop .n < length (start (layer t) .args .coins .now)
 coin t = coin-there _ _ _ _ _ (start (layer t) .pre) _ _ _ _ _ (t .before .loop .inv .1) (more t)
+
+spot : (t : Turn) → AtRound (start (layer t) .args .circuit .now) (layer t .walk .layer) (t .before .loop .round) (take (t .before .loop .n) (start (layer t) .args .coins .now))
+spot t = round-place _ _ _ _ _ (start (layer t) .pre) _ _ _ _ _ (t .before .loop .inv .1) (more t)
 
 words : (t : Turn) → t .before .loop .at + messageLength (start (layer t) .args .circuit .now) (place (layer t .walk .layer) (t .before .loop .round)) ≤ length (start (layer t) .args .messages .now)
 words t = words-there _ _ _ _ _ (start (layer t) .pre) _ _ _ _ _ (t .before .loop .inv .1) (more t)
@@ -141,7 +145,7 @@ slice-aggregate-judge : tie.Need-slice-aggregate-judge Inv-loop μ-loop Inv-walk
 slice-aggregate-judge c = let there = coin (c .before .before .before) in sym (length-take-le _ _ (omega arith))
 
 judge-requires : tie.Need-judge-requires Inv-loop μ-loop Inv-walk μ-walk
-judge-requires c κs = let t = c .before .before .before in round-place _ _ _ _ _ (start (layer t) .pre) _ _ _ _ _ (t .before .loop .inv .1) (more t)
+judge-requires c κs = search needs
 
 enum-known-judged : tie.Need-enum-known-judged Inv-loop μ-loop Inv-walk μ-walk
 enum-known-judged c = search needs
@@ -177,7 +181,7 @@ loop-again c =
     let wide = c .before .before .before .before .before .before .before .message-length in
     let m = take (t .before .loop .at + wide .result - t .before .loop .at) (drop (t .before .loop .at) (start o .args .messages .now)) in
     let f = prime-modulus _ (legal (start o)) _ (o .before .before .of .ensures) in
-    let passed = sym (c .before .before .before .before .judge .ensures) ∙ ap causeOf (c .before .before .enum-told .given .1) in (
+    let passed = sym (c .before .before .before .before .judge .ensures (spot t)) ∙ ap causeOf (c .before .before .enum-told .given .1) in (
       t .before .loop .inv .0,
       round-passes _ _ _ _ _ (start o .pre) _ _ _ _ _ (t .before .loop .inv .1) (more t) (wide .result) (wide .ensures) (c .value-at .result) passed
           (c .value-at .ensures ∙ ap (λ (p : ℕ). valueAt (words-of p) m (getD (start o .args .coins .now) (t .before .loop .n) 0)) f),
@@ -208,7 +212,7 @@ returns-2 c =
     let wide = c .before .before .before .before .before .before .message-length in
     let told = c .before .judged .given in
     round-refuses _ _ _ _ _ (start (layer t) .pre) _ _ _ _ _ (t .before .loop .inv .1) (more t) (wide .result) (wide .ensures) (told .0 .0)
-    (sym (ap causeOf (told .1)) ∙ c .before .before .before .judge .ensures)
+    (sym (ap causeOf (told .1)) ∙ c .before .before .before .judge .ensures (spot t))
 
 pub walk-spec : {M : Type 1} → statement M
 walk-spec =

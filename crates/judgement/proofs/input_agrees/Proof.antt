@@ -1,0 +1,91 @@
+-- `input_agrees` meets its contract: the row of the point holds the coordinates that the input has.
+-- Assumes nothing.
+use Prim.Native.Nat.{ℕ, _+_, _-_, min}
+use mathlib.Core.Path.{_≡_, sym, ap, _∙_, subst}
+use native.Mathlib.Omega.{arith}
+use lib.ListN.{length, take}
+use lib.Seq.{length-take-le}
+use Rattle.algebra.specs.Numbers.{words}
+use Rattle.multilinear.specs.Extension.{halving}
+use Rattle.circuit.specs.Limits.{maxExponent}
+use Rattle.circuit.specs.Circuit.{exponentAt}
+use Rattle.circuit.proofs.Layers.{prime-modulus}
+use Rattle.protocol.specs.Judge.{pointAt}
+use Rattle.standing.specs.Standing.{AtLayer, Row}
+use Rattle.judgement.proofs.Last.{legal, behind-last, agrees}
+use borrow.Author.Needs.{needs}
+use Rattle.judgement.proofs.input_agrees.Statement.{statement}
+use Rattle.judgement.proofs.input_agrees.Tie as tie
+
+word-requires : tie.Need-word-requires
+word-requires c κs = search needs
+
+cast-depth : tie.Need-cast-depth
+cast-depth c = search needs
+
+add-standing-point : tie.Need-add-standing-point
+add-standing-point c = search needs
+
+standing-point-requires : tie.Need-standing-point-requires
+standing-point-requires c κs = search needs
+
+exponent-requires : tie.Need-exponent-requires
+exponent-requires c κs = search needs
+
+cast-least : tie.Need-cast-least
+cast-least c = search needs
+
+least-requires : tie.Need-least-requires
+least-requires c κs = search needs
+
+word-requires-2 : tie.Need-word-requires-2
+word-requires-2 c κs = search needs
+
+of-requires : tie.Need-of-requires
+of-requires c κs = search needs
+
+array-share-prefix-point : tie.Need-array-share-prefix-point
+array-share-prefix-point c = search needs
+
+slice-aggregate-extend : tie.Need-slice-aggregate-extend
+slice-aggregate-extend c =
+    let point = c .before .before .before .before .before .standing-point in
+    let ok = point .ok in
+    let size : length (point .result) ≡ maxExponent = search needs in
+    sym (length-take-le _ _ (omega (arith, size, c .before .before .before .least .ensures)))
+
+extend-requires : tie.Need-extend-requires
+extend-requires c κs = search needs
+
+returns : tie.Need-returns
+returns c h =
+    let start = c .before .before .before .before .before .before .before .before .before .before .before in
+    let l = start .args .circuit .now in
+    let v = start .args .input .now in
+    let cs = start .args .coins .now in
+    let k = c .before .before .before .before .least in
+    let point = c .before .before .before .before .before .before .standing-point in
+    let deep = c .before .before .before .before .before .before .before .word .ensures in
+    let cut = k .ensures ∙ ap (λ (i : ℕ). min i maxExponent) (c .before .before .before .before .before .exponent .ensures ∙ ap (exponentAt l) deep) in
+    let row = subst (λ (i : ℕ). AtLayer l (i + 1) cs → Row (pointAt l (i + 1) cs) (point .result)) deep (point .ensures) (behind-last l v cs h) in
+    let f = prime-modulus l (legal l v cs h) _ (c .before .before .of .ensures ∙ ap (λ (p : ℕ). p - 1) (c .before .before .before .word2 .ensures)) in
+    agrees l v cs h (k .result) (c .extend .result) (start .args .claim) (point .result) cut row
+    (c .extend .ensures ∙ ap (λ (p : ℕ). halving (words p) v (take (k .result) (point .result))) f)
+
+pub input-agrees-spec : {M : Type 1} → statement M
+input-agrees-spec =
+    tie.close
+    (tie.spec
+    word-requires
+    cast-depth
+    add-standing-point
+    standing-point-requires
+    exponent-requires
+    cast-least
+    least-requires
+    word-requires-2
+    of-requires
+    array-share-prefix-point
+    slice-aggregate-extend
+    extend-requires
+    returns)

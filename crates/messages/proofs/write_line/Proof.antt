@@ -1,0 +1,84 @@
+-- `write_line` meets its contract: what stands at the round gives the two points of the line.
+-- Assumes nothing.
+use Prim.Native.Nat.{ℕ, _+_, _-_, _≤_}
+use mathlib.Core.Path.{_≡_, sym, ap, _∙_, subst}
+use native.Mathlib.Omega.{arith}
+use lib.ListN.{length, take}
+use lib.Seq.{length-take-le}
+use Rattle.algebra.specs.Numbers.{words as words-of}
+use Rattle.circuit.specs.Limits.{maxExponent}
+use Rattle.circuit.proofs.Layers.{prime-modulus}
+use Rattle.sumcheck.specs.Line.{lineHalving}
+use Rattle.line.specs.Row.{padded}
+use Rattle.protocol.specs.Rounds.{place}
+use Rattle.protocol.specs.Judge.{messageLength}
+use Rattle.standing.proofs.Lengths.{length-of-line}
+use Rattle.messages.proofs.Rows.{written, line-words}
+use borrow.Author.Needs.{needs}
+use Rattle.messages.proofs.write_line.Statement.{statement}
+use Rattle.messages.proofs.write_line.Tie as tie
+
+at-round-requires : tie.Need-at-round-requires
+at-round-requires c κs = search needs
+
+word-requires : tie.Need-word-requires
+word-requires c κs = search needs
+
+of-requires : tie.Need-of-requires
+of-requires c κs = search needs
+
+line-message-requires : tie.Need-line-message-requires
+line-message-requires c κs = search needs
+
+add-count : tie.Need-add-count
+add-count c = search needs
+
+array-share-prefix-words : tie.Need-array-share-prefix-words
+array-share-prefix-words c = search needs
+
+slice-aggregate-put : tie.Need-slice-aggregate-put
+slice-aggregate-put c =
+    let words = c .before .before .line-message in
+    let ok = words .ok in
+    let size : length (words .result) ≡ maxExponent + 1 = search needs in
+    sym (length-take-le _ _ (omega (arith, size, c .before .before .before .before .before .before .before .at-round .ensures .0 .own)))
+
+put-requires : tie.Need-put-requires
+put-requires c κs = search needs
+
+same-length : tie.Need-same-length
+same-length c = search needs
+
+returns : tie.Need-returns
+returns c h il =
+    let own = c .before .before .before .before .before .before .before .before .before .before in
+    let start = own .before .before .before .before .before in
+    let l = start .args .circuit .now in
+    let past = start .args .past .now in
+    let vs = start .args .values .now in
+    let st = own .at-round .result in
+    let t = own .at-round .ensures .1 (h .there) in
+    let r = place (start .args .layer) (start .args .round) in
+    let n : st .own + 1 ≡ messageLength l r = ap (λ (k : ℕ). k + 1) (t .own) ∙ length-of-line l r il in
+    let of = c .before .before .before .before .before .before in
+    let f = prime-modulus l (h .there .legal) _ (of .of .ensures ∙ ap (λ (p : ℕ). p - 1) (of .before .word .ensures)) in
+    let words = c .before .before .before .before .before .line-message in
+    let said =
+    line-words l (start .args .layer) (start .args .round) past vs (start .args .buffer .now) h st t il (words .result) (st .own + 1) n
+    (words .ensures ∙ ap (λ (p : ℕ). padded (lineHalving (words-of p) vs (take (st .own) (st .u)) (take (st .own) (st .v)))) f) in
+    written (words .result) (start .args .buffer .now) _ _ (st .own + 1) (subst (λ (i : ℕ). i ≤ length (start .args .buffer .now)) (sym n) (h .room)) said (c .before .before .put .ensures)
+
+pub write-line-spec : {M : Type 1} → statement M
+write-line-spec =
+    tie.close
+    (tie.spec
+    at-round-requires
+    word-requires
+    of-requires
+    line-message-requires
+    add-count
+    array-share-prefix-words
+    slice-aggregate-put
+    put-requires
+    same-length
+    returns)

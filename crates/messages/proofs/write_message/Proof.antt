@@ -1,0 +1,142 @@
+-- `write_message` meets its contract: the part of all values that it lends on is the layer's.
+-- Assumes nothing.
+use Prim.Native.Nat.{ℕ, _+_, _-_, _*_, _≤_}
+use mathlib.Core.Path.{_≡_, sym, ap, _∙_}
+use mathlib.Core.List.{List}
+use native.Mathlib.Omega.{arith}
+use lib.ListN.{length, take, drop}
+use Rattle.lists.specs.Buffer.{over}
+use Rattle.circuit.specs.Limits.{maxDepth}
+use Rattle.protocol.specs.Rounds.{place}
+use Rattle.protocol.specs.Prove.{messageFrom}
+use Rattle.messages.specs.Writing.{valuesIn, Writable}
+use Rattle.messages.proofs.Parts.{part-small, part-inside, part-values, part-writable}
+use borrow.Author.Needs.{needs}
+use Rattle.messages.proofs.write_message.Statement.{statement}
+use Rattle.messages.proofs.write_message.Tie as tie
+
+-- what is known once the layer's part is measured
+abbrev start : tie.After-width → tie.Start
+start w = w .before .before .before .before .before .before .before
+
+abbrev from : tie.After-width → ℕ
+from w = w .before .before .gates-before .result
+
+abbrev part : tie.After-width → List ℕ
+part w = take (from w + w .width .result - from w) (drop (from w) (start w .args .values .now))
+
+abbrev Ready : tie.After-width → List ℕ → Type 0
+Ready w vs = Writable (start w .args .circuit .now) (start w .args .layer) (start w .args .round) (start w .args .past .now) vs (start w .args .buffer .now)
+
+abbrev own : tie.After-width → List ℕ
+own w = valuesIn (start w .args .circuit .now) (start w .args .layer) (start w .args .values .now)
+
+small : (w : tie.After-width) → from w + w .width .result ≤ 256 * maxDepth + 256
+small w = part-small _ _ _ _ _ (w .before .before .gates-before .ensures) (w .width .ensures)
+
+inside : (w : tie.After-width) → Ready w (own w) → from w + w .width .result ≤ length (start w .args .values .now)
+inside w h = part-inside _ _ _ _ _ _ h _ _ _ (w .before .before .gates-before .ensures) (w .before .exponent .ensures) (w .width .ensures)
+
+whole : (w : tie.After-width) → Ready w (own w) → part w ≡ own w
+whole w h = part-values _ _ _ _ _ _ h _ _ _ (w .before .before .gates-before .ensures) (w .before .exponent .ensures) (w .width .ensures)
+
+ready : (w : tie.After-width) → Ready w (own w) → Ready w (part w)
+ready w h = part-writable _ _ _ _ _ _ h _ _ _ (w .before .before .gates-before .ensures) (w .before .exponent .ensures) (w .width .ensures)
+
+-- the message from a layer's values, over the buffer
+abbrev message : tie.After-width → List ℕ → List ℕ
+message w vs =
+    over (messageFrom (start w .args .circuit .now) vs (place (start w .args .layer) (start w .args .round)) (start w .args .past .now)) (start w .args .buffer .now)
+
+-- a message from the part is one from the layer's values
+from-whole : (w : tie.After-width) → Ready w (own w) → (after : List ℕ) → after ≡ message w (part w) → after ≡ message w (own w)
+from-whole w h after e = e ∙ ap (message w) (whole w h)
+
+gates-before-requires : tie.Need-gates-before-requires
+gates-before-requires c κs = search needs
+
+exponent-requires : tie.Need-exponent-requires
+exponent-requires c κs = search needs
+
+width-requires : tie.Need-width-requires
+width-requires c κs = search needs
+
+add-to : tie.Need-add-to
+add-to c = let few = small c in search needs
+
+returns : tie.Need-returns
+returns c h = absurd (omega (arith, inside (c .before) h, c .if1 .taken))
+
+is-line-requires : tie.Need-is-line-requires
+is-line-requires c κs = search needs
+
+mul-write-line : tie.Need-mul-write-line
+mul-write-line c = search needs
+
+sub-write-line : tie.Need-sub-write-line
+sub-write-line c = search needs
+
+part-write-line-start : tie.Need-part-write-line-start
+part-write-line-start c = search needs
+
+part-write-line-end : tie.Need-part-write-line-end
+part-write-line-end c = search needs
+
+write-line-requires : tie.Need-write-line-requires
+write-line-requires c κs = search needs
+
+same-length : tie.Need-same-length
+same-length c = search needs
+
+returns-2 : tie.Need-returns-2
+returns-2 c h =
+    let w = c .before .before .before .before .before .before .before .before in
+    from-whole w h _ (c .before .before .write-line .ensures (ready w h) (sym (c .before .before .before .before .before .before .is-line .ensures) ∙ search needs))
+
+mul-write-sum : tie.Need-mul-write-sum
+mul-write-sum c = search needs
+
+sub-write-sum : tie.Need-sub-write-sum
+sub-write-sum c = search needs
+
+part-write-sum-start : tie.Need-part-write-sum-start
+part-write-sum-start c = search needs
+
+part-write-sum-end : tie.Need-part-write-sum-end
+part-write-sum-end c = search needs
+
+write-sum-requires : tie.Need-write-sum-requires
+write-sum-requires c κs = search needs
+
+same-length-2 : tie.Need-same-length-2
+same-length-2 c = search needs
+
+returns-3 : tie.Need-returns-3
+returns-3 c h =
+    let w = c .before .before .before .before .before .before .before .before in
+    from-whole w h _ (c .before .before .write-sum .ensures (ready w h) (sym (c .before .before .before .before .before .before .is-line .ensures) ∙ search needs))
+
+pub write-message-spec : {M : Type 1} → statement M
+write-message-spec =
+    tie.close
+    (tie.spec
+    gates-before-requires
+    exponent-requires
+    width-requires
+    add-to
+    returns
+    is-line-requires
+    mul-write-line
+    sub-write-line
+    part-write-line-start
+    part-write-line-end
+    write-line-requires
+    same-length
+    returns-2
+    mul-write-sum
+    sub-write-sum
+    part-write-sum-start
+    part-write-sum-end
+    write-sum-requires
+    same-length-2
+    returns-3)

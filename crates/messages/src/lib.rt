@@ -1,0 +1,86 @@
+// The one writer of an honest message into a lent buffer. Every function is total; it promises nothing where the list is no legal circuit, the
+// coins are not those before the place, the values are not the layers', or the buffer has no room.
+use field::Field;
+ghost use mathlib.Core.Path.{_≡_};
+ghost use mathlib.Core.Bool.{true, false};
+ghost use Rattle.lists.specs.Buffer.{over};
+ghost use Rattle.protocol.specs.Rounds.{place, isLine};
+ghost use Rattle.protocol.specs.Prove.{messageFrom};
+ghost use Rattle.messages.specs.Writing.{valuesIn, Writable};
+
+// Writes the message of a sum round to the buffer's front, from the values of its layer.
+fn write_sum(
+    circuit: &[u32],
+    layer: usize,
+    round: usize,
+    past: &[u32],
+    values: &[u32],
+    buffer: &mut [u32],
+)
+    ensures { λ _. ⌜ (Writable (now (circuit .entry)) layer round (now (past .entry)) (now (values .entry)) (now (buffer .entry)) → isLine (now (circuit .entry)) (place layer round) ≡ false → now (buffer .exit) ≡ over (messageFrom (now (circuit .entry)) (now (values .entry)) (place layer round) (now (past .entry))) (now (buffer .entry))) ⌝ }
+{
+    let s = standing::at_round(circuit, layer, round, past);
+    let from = s.from;
+    let to = s.to;
+    let point = s.point;
+    let u = s.u;
+    let v = s.v;
+    let points = [u, v];
+    let f = Field::of(lists::word(circuit, 0));
+    let words = sums::sum_message(
+        f,
+        &circuit[from..to],
+        point,
+        s.above,
+        values,
+        points,
+        s.own,
+        round,
+    );
+    lists::put(buffer, &words[..3]);
+}
+
+// Writes a layer's line message to the buffer's front.
+fn write_line(
+    circuit: &[u32],
+    layer: usize,
+    round: usize,
+    past: &[u32],
+    values: &[u32],
+    buffer: &mut [u32],
+)
+    ensures { λ _. ⌜ (Writable (now (circuit .entry)) layer round (now (past .entry)) (now (values .entry)) (now (buffer .entry)) → isLine (now (circuit .entry)) (place layer round) ≡ true → now (buffer .exit) ≡ over (messageFrom (now (circuit .entry)) (now (values .entry)) (place layer round) (now (past .entry))) (now (buffer .entry))) ⌝ }
+{
+    let s = standing::at_round(circuit, layer, round, past);
+    let own = s.own;
+    let u = s.u;
+    let v = s.v;
+    let points = [u, v];
+    let f = Field::of(lists::word(circuit, 0));
+    let words = line::line_message(f, values, points, own);
+    let count = own + 1;
+    lists::put(buffer, &words[..count]);
+}
+
+// Writes the message of a round to the buffer's front, from the values of all layers and the coins before it. Both forms of the proof write by it.
+pub fn write_message(
+    circuit: &[u32],
+    layer: usize,
+    round: usize,
+    past: &[u32],
+    values: &[u32],
+    buffer: &mut [u32],
+)
+    ensures { λ _. ⌜ (Writable (now (circuit .entry)) layer round (now (past .entry)) (valuesIn (now (circuit .entry)) layer (now (values .entry))) (now (buffer .entry)) → now (buffer .exit) ≡ over (messageFrom (now (circuit .entry)) (valuesIn (now (circuit .entry)) layer (now (values .entry))) (place layer round) (now (past .entry))) (now (buffer .entry))) ⌝ }
+{
+    let from = standing::gates_before(circuit, layer);
+    let to = from + legality::width(standing::exponent(circuit, layer));
+    if values.len() < to {
+        return;
+    }
+    if standing::is_line(circuit, layer, round) {
+        write_line(circuit, layer, round, past, &values[from..to], buffer);
+        return;
+    }
+    write_sum(circuit, layer, round, past, &values[from..to], buffer);
+}

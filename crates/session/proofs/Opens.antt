@@ -1,0 +1,38 @@
+-- The opening's answer, refusal by refusal.
+-- Assumes nothing.
+use Prim.Native.Nat.{ℕ, _≤_, _<_}
+use mathlib.Core.Path.{_≡_, refl, sym, ap, _∙_}
+use mathlib.Core.List.{List}
+use borrow.Author.Tests.{lt-ltb, le-ltb}
+use Rattle.refusal.specs.Number.{numberOf}
+use Rattle.refusal.specs.declared.Cause.{Cause}
+use Rattle.refusal.proofs.Order.{numbered-suc, refused-first}
+use Rattle.circuit.specs.Circuit.{primeOf}
+use Rattle.circuit.specs.Legal.{listsCause}
+use Rattle.protocol.specs.Check.{needCoins}
+use Rattle.protocol.specs.Session.{openCause, openedAt, opens, refuses, openedBy, openAnswer}
+
+refused-by : (cause : Cause) (n y : ℕ) → numberOf cause ≡ n → refuses (numberOf cause) ≡ openedBy n y
+refused-by cause n y e =
+    let s = numbered-suc cause in
+    ap refuses (s .1) ∙ ap (λ (k : ℕ). openedBy k y) (sym (s .1) ∙ e)
+
+module _ (c input : List ℕ) (y : ℕ) (cs : List ℕ) where
+  pub open-lists : (cause : Cause) → numberOf cause ≡ listsCause c input → refuses (numberOf cause) ≡ openAnswer c input y cs
+  unfolding openAnswer openCause
+  open-lists cause e = refused-by cause (openCause c input y cs) y (sym (refused-first cause (listsCause c input) _ e))
+
+  module _ (legal : listsCause c input ≡ 0) where
+    pub open-output : primeOf c ≤ y → refuses 13 ≡ openAnswer c input y cs
+    unfolding openAnswer openCause
+    open-output l = rw (legal, le-ltb y (primeOf c) l) refl
+
+    only-coins : y < primeOf c → openAnswer c input y cs ≡ openedBy (needCoins c cs 0) y
+    unfolding openAnswer openCause
+    only-coins l = rw (legal, lt-ltb y (primeOf c) l) refl
+
+    pub open-coins : y < primeOf c → (cause : Cause) → numberOf cause ≡ needCoins c cs 0 → refuses (numberOf cause) ≡ openAnswer c input y cs
+    open-coins l cause e = refused-by cause (needCoins c cs 0) y e ∙ sym (only-coins l)
+
+    pub open-opens : y < primeOf c → 0 ≡ needCoins c cs 0 → opens (openedAt y) ≡ openAnswer c input y cs
+    open-opens l e = ap (λ (n : ℕ). openedBy n y) e ∙ sym (only-coins l)

@@ -1,0 +1,155 @@
+-- When a record fits a circuit, case by case; and what follows a message that passed.
+-- Assumes nothing.
+use Prim.Native.Nat.{ℕ, suc, _+_, _*_, _≤_, _<_}
+use mathlib.Core.Path.{_≡_, refl, sym, ap, _∙_}
+use mathlib.Core.Bool.{Bool, true, false, _&&_, cond}
+use mathlib.Core.List.{List}
+use native.Mathlib.Numerals.{add-one}
+use native.Mathlib.Omega.{arith}
+use lib.Dec.{ltb, leb, eqb}
+use lib.ListN.{length}
+use borrow.Author.Tests.{le-leb, lt-leb, leb-true, ltb-true, eq-eqb, ne-eqb}
+use Rattle.circuit.specs.Circuit.{primeOf, depth, exponents, exponentAt}
+use Rattle.circuit.specs.Sized.{LayerOf, LegalCircuit}
+use Rattle.circuit.proofs.Loading.{split-true, legal-lists}
+use Rattle.circuit.proofs.Sized.{deep}
+use Rattle.walk.specs.Session.{accepted, goOn, refused, Record, ended, stepFinal}
+use Rattle.protocol.specs.Rounds.{Place, place, isLine, isLast}
+use Rattle.protocol.specs.Judge.{inputAgrees, descent}
+use Rattle.protocol.specs.Session.{recordFits}
+use Rattle.judgement.specs.Finished.{Finished}
+use Rattle.session.specs.Answers.{recordOf, openAt, verdictOf, Fitting, goesOn, GoesOn}
+use Rattle.session.specs.declared.Session.{Session}
+use Rattle.session.specs.declared.Stepped.{Stepped}
+use Rattle.standing.specs.Standing.{LayerSoFar}
+use Rattle.standing.proofs.Gates.{exponent-small}
+use Rattle.standing.proofs.Coins.{layer-of}
+
+module _ (c : List ℕ) (h : LegalCircuit c) (s : Record Place) where
+  pub fits-closed : s .opened ≡ false → false ≡ recordFits c s
+  unfolding recordFits
+  fits-closed o = rw o refl
+
+  module _ (o : s .opened ≡ true) where
+    pub fits-low : s .round .layer < 1 → false ≡ recordFits c s
+    unfolding recordFits
+    fits-low l = rw (o, lt-leb 1 (s .round .layer) l) refl
+
+    module _ (low : 1 ≤ s .round .layer) where
+      pub fits-deep : depth c < s .round .layer → false ≡ recordFits c s
+      unfolding recordFits
+      fits-deep l = rw (o, le-leb 1 (s .round .layer) low, lt-leb (s .round .layer) (length (exponents c)) (omega (arith, deep c h))) refl
+
+      module _ (inside : s .round .layer ≤ depth c) where
+        pub layer-in : LayerOf c (s .round .layer)
+        layer-in = layer-of c h (s .round .layer) inside
+
+        pub fits-far : 2 * exponentAt c (s .round .layer) < s .round .round → false ≡ recordFits c s
+        unfolding recordFits
+        fits-far l =
+            rw (
+              o,
+              le-leb 1 (s .round .layer) low,
+              le-leb (s .round .layer) (length (exponents c)) (omega (arith, deep c h)),
+              lt-leb (s .round .round) (2 * exponentAt c (s .round .layer)) l,
+            ) refl
+
+        pub fits-claim : s .round .round ≤ 2 * exponentAt c (s .round .layer) → ltb (s .claim) (primeOf c) ≡ recordFits c s
+        unfolding recordFits
+        fits-claim l =
+            rw (
+              o,
+              le-leb 1 (s .round .layer) low,
+              le-leb (s .round .layer) (length (exponents c)) (omega (arith, deep c h)),
+              le-leb (s .round .round) (2 * exponentAt c (s .round .layer)) l,
+            ) refl
+
+  -- what a fitting record says
+  pub record Fit : Type 0 where
+    pub opened : s .opened ≡ true
+    pub low : 1 ≤ s .round .layer
+    pub inside : s .round .layer ≤ depth c
+    pub reached : s .round .round ≤ 2 * exponentAt c (s .round .layer)
+    pub claim : s .claim < primeOf c
+
+  pub fit : recordFits c s ≡ true → Fit
+  unfolding recordFits
+  fit e =
+      let a = split-true (s .opened) _ e in
+      let b = split-true (leb 1 (s .round .layer)) _ (a .1) in
+      let d = split-true (leb (s .round .layer) (length (exponents c))) _ (b .1) in
+      let f = split-true (leb (s .round .round) (2 * exponentAt c (s .round .layer))) _ (d .1) in
+      let deeper = leb-true (s .round .layer) (length (exponents c)) (d .0) in
+      record {
+        opened = a .0;
+        low = leb-true 1 (s .round .layer) (b .0);
+        inside = omega (arith, deep c h, deeper);
+        reached = leb-true (s .round .round) (2 * exponentAt c (s .round .layer)) (f .0);
+        claim = ltb-true (s .claim) (primeOf c) (f .1);
+      }
+
+-- AFTER A MESSAGE THAT PASSED
+module _ (c input cs : List ℕ) (s : Session) (h : Fitting c input cs s) where
+  pub legal : LegalCircuit c
+  legal = legal-lists c input (h .lists) .circuit
+
+  pub own : Fit c legal (recordOf s)
+  own = fit c legal (recordOf s) (h .fits)
+
+  pub long : 2 + depth c ≤ length c
+  long = legal .sized .headed .long
+
+  pub own-layer : LayerOf c (s .layer)
+  own-layer = layer-of c legal (s .layer) (own .inside)
+
+  pub own-start : LayerSoFar c (s .layer)
+  own-start = let inside = own .inside in record { legal = legal; first = own .low; last = omega arith }
+
+  pub small-round : s .round ≤ 16
+  small-round = let low = exponent-small c (s .layer) own-layer in let reached = own .reached in omega arith
+
+  pub small-layer : s .layer ≤ 16
+  small-layer = let low = legal .sized .headed .shallow in let inside = own .inside in omega arith
+
+  pub finished : Finished c input cs
+  finished = record { lists = h .lists; counted = h .counted }
+
+  at-end : ¬ (s .layer < depth c) → s .layer ≡ length (exponents c)
+  at-end ne = let inside = own .inside in omega (arith, ne, deep c legal)
+
+  module _ (coin y : ℕ) where
+    goes : (b : Bool) → isLast c (place (s .layer) (s .round)) ≡ b → (r : Stepped) → verdictOf (r .verdict) ≡ goesOn c input cs s coin y b .0
+        → recordOf (r .session) ≡ goesOn c input cs s coin y b .1 → GoesOn c input cs s coin y r
+    goes b e r answer after = record {
+      answer = answer ∙ ap (λ (x : Bool). goesOn c input cs s coin y x .0) (sym e);
+      after = after ∙ ap (λ (x : Bool). goesOn c input cs s coin y x .1) (sym e);
+    }
+
+    pub goes-round : isLine c (place (s .layer) (s .round)) ≡ false → (r : Stepped) → verdictOf (r .verdict) ≡ goOn coin
+        → recordOf (r .session) ≡ openAt (place (s .layer) (s .round + 1)) y → GoesOn c input cs s coin y r
+    goes-round e r answer after =
+        goes false (ap (λ (b : Bool). b && eqb (s .layer) (length (exponents c))) e) r answer
+        (after ∙ ap (λ (j : ℕ). openAt (place (s .layer) j) y) (add-one (s .round))
+        ∙ ap (λ (b : Bool). openAt (cond b (place (suc (s .layer)) 0) (place (s .layer) (suc (s .round)))) y) (sym e))
+
+    pub goes-layer : isLine c (place (s .layer) (s .round)) ≡ true → s .layer < depth c → (r : Stepped) → verdictOf (r .verdict) ≡ goOn coin
+        → recordOf (r .session) ≡ openAt (place (s .layer + 1) 0) y → GoesOn c input cs s coin y r
+    goes-layer e more r answer after =
+        let ne : ¬ (s .layer ≡ length (exponents c)) = λ (q : s .layer ≡ length (exponents c)). omega (arith, q, more, deep c legal) in
+        goes false (ap (λ (b : Bool). b && eqb (s .layer) (length (exponents c))) e ∙ ne-eqb (s .layer) (length (exponents c)) ne) r answer
+        (after ∙ ap (λ (i : ℕ). openAt (place i 0) y) (add-one (s .layer))
+        ∙ ap (λ (b : Bool). openAt (cond b (place (suc (s .layer)) 0) (place (s .layer) (suc (s .round)))) y) (sym e))
+
+    module _ (e : isLine c (place (s .layer) (s .round)) ≡ true) (ne : ¬ (s .layer < depth c)) (r : Stepped) (after : recordOf (r .session) ≡ ended (recordOf s)) where
+      is-last : isLast c (place (s .layer) (s .round)) ≡ true
+      is-last = ap (λ (b : Bool). b && eqb (s .layer) (length (exponents c))) e ∙ eq-eqb (s .layer) (length (exponents c)) (at-end ne)
+
+      pub goes-accepted : inputAgrees c input cs y ≡ true → verdictOf (r .verdict) ≡ accepted → GoesOn c input cs s coin y r
+      goes-accepted a answer =
+          goes true is-last r (answer ∙ ap (λ (b : Bool). stepFinal (descent c input) b (recordOf s) .0) (sym a))
+          (after ∙ ap (λ (b : Bool). stepFinal (descent c input) b (recordOf s) .1) (sym a))
+
+      pub goes-refused : inputAgrees c input cs y ≡ false → verdictOf (r .verdict) ≡ refused 18 → GoesOn c input cs s coin y r
+      goes-refused a answer =
+          goes true is-last r (answer ∙ ap (λ (b : Bool). stepFinal (descent c input) b (recordOf s) .0) (sym a))
+          (after ∙ ap (λ (b : Bool). stepFinal (descent c input) b (recordOf s) .1) (sym a))
