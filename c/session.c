@@ -1,6 +1,7 @@
 /*
- * A session in C: a verifier that hands out its coins one by one, and a prover that answers each. The circuit is the worked example's, p = 13
- * and one gate that multiplies two inputs. The honest prover is accepted; one that claims another output is refused at its first message.
+ * A session in C: a verifier that hands out its coins one by one, and a prover that answers each. The circuit is
+ * the worked example's, p = 13 and one gate that multiplies two inputs. The honest prover is accepted; one that
+ * claims another output is refused at its first message.
  *
  *     rt staticlib kidlothe
  *     gcc -std=c99 -Wall -Wextra -o target/session c/session.c target/staticlib/libkidlothe.a && target/session
@@ -15,7 +16,8 @@ enum { CIRCUIT_WORDS = 6, INPUT_WORDS = 2, COINS = 3 };
 static const uint32_t circuit[CIRCUIT_WORDS] = {13, 1, 1, 2, 0, 1};
 static const uint32_t input[INPUT_WORDS] = {3, 5};
 
-/* The verifier's own. A real one draws them at random, below p, and keeps them from the prover until they are handed out. */
+/* The verifier's own. A real one draws them at random, below p, and keeps them from the prover until they are
+ * handed out. */
 static const uint32_t coins[COINS] = {4, 6, 9};
 
 /* What the prover knows: the coins that were handed out to it. */

@@ -1,6 +1,7 @@
 /*
- * What a C program relies on beside the answers, which the comparison in rust/compare holds against another implementation: how the answers'
- * fields lie, lists without words given as NULL, and words around a session or a buffer that stay as they were.
+ * What a C program relies on beside the answers, which the comparison in rust/compare holds against another
+ * implementation: how the answers' fields lie, lists without words given as NULL, and words around a session or a
+ * buffer that stay as they were.
  */
 #include "../c/kidlothe.h"
 

@@ -1,5 +1,5 @@
-//! Finds the proved library, which `rt staticlib kidlothe` writes to target/staticlib of the repository. Another place for it is named by
-//! KIDLOTHE_LIBRARY_DIR.
+//! Finds the proved library, which `rt staticlib kidlothe` writes to target/staticlib of the repository. Another place
+//! for it is named by KIDLOTHE_LIBRARY_DIR.
 use std::env;
 use std::path::PathBuf;
 

@@ -1,5 +1,5 @@
-//! The operations that are timed, each by the proved library and by the plain implementation. Each answers something of its result, so that no
-//! compiler can leave the work out, and so that both can be compared.
+//! The operations that are timed, each by the proved library and by the plain implementation. Each answers something of
+//! its result, so that no compiler can leave the work out, and so that both can be compared.
 use crate::circuits::Job;
 
 pub struct Operation {

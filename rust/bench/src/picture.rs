@@ -1,4 +1,5 @@
-//! A picture of the growth: two panels, time on a scale of powers of ten. A full line is the proved library, a dashed one the plain one.
+//! A picture of the growth: two panels, time on a scale of powers of ten. A full line is the proved library, a dashed
+//! one the plain one.
 use crate::growth::{Growth, Line, DEPTH, EXPONENT};
 use std::fmt::Write;
 

@@ -1,8 +1,10 @@
-//! The check of an argued output of a layered arithmetic circuit, and what belongs to it: safe functions over the proved library.
+//! The check of an argued output of a layered arithmetic circuit, and what belongs to it: safe functions over the
+//! proved library.
 //!
-//! A client has a circuit over a prime field and its input. Another machine computes the output and argues for it, message by message; the
-//! check decides whether the output is released. Each function here passes its lists to a function of the library that is proved to answer,
-//! on all lists, as the specification's definition of the operation does. Nothing here is wrong to call: a list that is not legal is refused.
+//! A client has a circuit over a prime field and its input. Another machine computes the output and argues for it,
+//! message by message; the check decides whether the output is released. Each function here passes its lists to a
+//! function of the library that is proved to answer, on all lists, as the specification's definition of the operation
+//! does. Nothing here is wrong to call: a list that is not legal is refused.
 //!
 //! ```
 //! // p = 13; one gate multiplies the two inputs.
@@ -33,7 +35,8 @@
 //! # Ok::<(), kidlothe::Refusal>(())
 //! ```
 //!
-//! What the caller sees to: coins are drawn at random below p, and the prover learns each only after it has sent the message before it.
+//! What the caller sees to: coins are drawn at random below p, and the prover learns each only after it has sent the
+//! message before it.
 #![warn(missing_docs)]
 
 mod foreign;
@@ -82,8 +85,8 @@ pub fn load(circuit: &[u32]) -> Result<(), Refusal> {
     answered(number, ())
 }
 
-/// Evaluate: the output. The buffer then begins with the values of all gates, layers 0 to D-1 in order, and the input words; the rest of it
-/// is unchanged. Refuses by the first of 1 to 9 and 10, and leaves the buffer then.
+/// Evaluate: the output. The buffer then begins with the values of all gates, layers 0 to D-1 in order, and the input
+/// words; the rest of it is unchanged. Refuses by the first of 1 to 9 and 10, and leaves the buffer then.
 pub fn evaluate(circuit: &[u32], input: &[u32], buffer: &mut [u32]) -> Result<u32, Refusal> {
     // SAFETY: the lists are borrowed for the call, the buffer mutably, so it overlaps none of them.
     let answer = unsafe {
@@ -99,9 +102,9 @@ pub fn evaluate(circuit: &[u32], input: &[u32], buffer: &mut [u32]) -> Result<u3
     answered(answer.refusal, answer.output)
 }
 
-/// Read: the given number, 1 to 4, of arrays of unsigned integers (RFC 4506) that the bytes are made of. Answers their counts, 0 for arrays
-/// not called for. The buffer then begins with the words of all arrays in order; the rest of it is unchanged. Refuses by the first of 20 and
-/// 10, and leaves the buffer then.
+/// Read: the given number, 1 to 4, of arrays of unsigned integers (RFC 4506) that the bytes are made of. Answers their
+/// counts, 0 for arrays not called for. The buffer then begins with the words of all arrays in order; the rest of it is
+/// unchanged. Refuses by the first of 20 and 10, and leaves the buffer then.
 pub fn read(bytes: &[u8], number: u32, buffer: &mut [u32]) -> Result<[u32; 4], Refusal> {
     // SAFETY: the bytes are borrowed for the call, the buffer mutably, so they do not overlap.
     let answer =
@@ -109,8 +112,9 @@ pub fn read(bytes: &[u8], number: u32, buffer: &mut [u32]) -> Result<[u32; 4], R
     answered(answer.refusal, answer.counts)
 }
 
-/// Prove, whole: the output and the honest messages for these coins. The buffer then begins with the messages, one directly after another; the
-/// rest of it is unchanged. Refuses by the first of 1 to 9, 11, 12 and 10, and leaves the buffer then.
+/// Prove, whole: the output and the honest messages for these coins. The buffer then begins with the messages, one
+/// directly after another; the rest of it is unchanged. Refuses by the first of 1 to 9, 11, 12 and 10, and leaves the
+/// buffer then.
 pub fn prove(circuit: &[u32], input: &[u32], coins: &[u32], messages: &mut [u32]) -> Result<Proof, Refusal> {
     // SAFETY: the lists are borrowed for the call, the buffer mutably, so it overlaps none of them.
     let answer = unsafe {
@@ -129,8 +133,9 @@ pub fn prove(circuit: &[u32], input: &[u32], coins: &[u32], messages: &mut [u32]
     answered(answer.refusal, proof)
 }
 
-/// Prove, one message: the honest message that follows the coins handed out so far. Answers how many words it has. The buffer then begins
-/// with them; the rest of it is unchanged. Refuses by the first of 1 to 9, 11, 12 and 10, and leaves the buffer then.
+/// Prove, one message: the honest message that follows the coins handed out so far. Answers how many words it has. The
+/// buffer then begins with them; the rest of it is unchanged. Refuses by the first of 1 to 9, 11, 12 and 10, and leaves
+/// the buffer then.
 pub fn prove_one(circuit: &[u32], input: &[u32], prefix: &[u32], buffer: &mut [u32]) -> Result<usize, Refusal> {
     // SAFETY: the lists are borrowed for the call, the buffer mutably, so it overlaps none of them.
     let answer = unsafe {
@@ -148,8 +153,8 @@ pub fn prove_one(circuit: &[u32], input: &[u32], prefix: &[u32], buffer: &mut [u
     answered(answer.refusal, answer.words)
 }
 
-/// Check, whole: accepts where every comparison of the walk holds, and only there. Refuses by the first of 1 to 9, 13, 11, 12, 14, and then by
-/// the first message that earns one of 15 to 17, or by 18.
+/// Check, whole: accepts where every comparison of the walk holds, and only there. Refuses by the first of 1 to 9, 13,
+/// 11, 12, 14, and then by the first message that earns one of 15 to 17, or by 18.
 pub fn check(circuit: &[u32], input: &[u32], output: u32, coins: &[u32], messages: &[u32]) -> Result<(), Refusal> {
     // SAFETY: the lists are borrowed for the call.
     let number = unsafe {

@@ -39,8 +39,8 @@ impl Session {
 
     /// Judges the next message. Every call takes the circuit, input and coins with which the session was opened.
     ///
-    /// Refuses by the first of 1 to 9, 11, 12, 19, 14, 15, 16 or 17, and 18. An acceptance and the refusals 14 to 18 end the session; the other
-    /// refusals leave it as it was.
+    /// Refuses by the first of 1 to 9, 11, 12, 19, 14, 15, 16 or 17, and 18. An acceptance and the refusals 14 to 18
+    /// end the session; the other refusals leave it as it was.
     pub fn step(
         &mut self,
         circuit: &[u32],
@@ -48,7 +48,8 @@ impl Session {
         coins: &[u32],
         message: &[u32],
     ) -> Result<Progress, Refusal> {
-        // SAFETY: the lists are borrowed for the call, and the session's words are borrowed mutably, so they overlap none of them.
+        // SAFETY: the lists are borrowed for the call, and the session's words are borrowed mutably, so they overlap
+        // none of them.
         let answer = unsafe {
             foreign::kidlothe_step(
                 circuit.as_ptr(),
@@ -94,8 +95,8 @@ impl Session {
         self.words
     }
 
-    /// The record that was stored as these words. Words that no session had do no harm: a step refuses them by 19, or judges its message at the
-    /// place that they name.
+    /// The record that was stored as these words. Words that no session had do no harm: a step refuses them by 19, or
+    /// judges its message at the place that they name.
     pub fn from_words(words: [u32; 4]) -> Session {
         Session { words }
     }
