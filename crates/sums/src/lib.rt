@@ -2,6 +2,7 @@
 use extension::MAX_COORDINATES;
 use field::Field;
 use tables::MAX_WIDTH;
+use tally::Tally;
 ghost use mathlib.Core.Path.{_≡_};
 ghost use mathlib.Core.List.{[]};
 ghost use Prim.Native.Nat.{_≤_, min};
@@ -32,8 +33,10 @@ struct Wire {
     one: bool,
 }
 
-// A gate's part in the sum over the gates whose bit is 0, in that over those whose bit is 1, and in that of the squares.
+// A gate's share, and what it is multiplied by in the sum over the gates whose bit is 0, in that over those whose bit is 1, and in that of the
+// squares.
 struct Counts {
+    share: u32,
     zeros: u32,
     ones: u32,
     squares: u32,
@@ -85,17 +88,18 @@ fn count_gate(f: Field, kind: u32, weight: u32, l: Wire, r: Wire) -> Counts
     let share = f.mul(weight, f.mul(l.share, r.share));
     let own = evaluation::gate_value(f, kind, l.own, r.own);
     let other = evaluation::gate_value(f, kind, l.other, r.other);
-    let value = f.mul(share, own);
-    let squares = f.mul(share, f.sub(own, other));
+    let squares = f.sub(own, other);
     if l.one || r.one {
         return Counts {
+            share,
             zeros: 0,
-            ones: value,
+            ones: own,
             squares,
         };
     }
     Counts {
-        zeros: value,
+        share,
+        zeros: own,
         ones: 0,
         squares,
     }
@@ -116,9 +120,9 @@ fn by_gates(
     requires { ⌜ Fits lcut × Fits rcut ⌝ }
     ensures { λ m. ⌜ m ≡ sumsOf (numbers f) (now (weights .entry)) (side (now (lshares .entry)) (now (ltable .entry)) lcut) (side (now (rshares .entry)) (now (rtable .entry)) rcut) (gatesIn (now (gates .entry))) ⌝ }
 {
-    let mut zeros = Field::ZERO;
-    let mut ones = Field::ZERO;
-    let mut squares = Field::ZERO;
+    let mut zeros = Tally::empty();
+    let mut ones = Tally::empty();
+    let mut squares = Tally::empty();
     let mut a = gates.len() / 3;
     while 0 < a {
         a -= 1;
@@ -126,11 +130,13 @@ fn by_gates(
         let left = read_wire(lshares, ltable, lcut, gates[g + 1]);
         let right = read_wire(rshares, rtable, rcut, gates[g + 2]);
         let counts = count_gate(f, gates[g], lists::word(weights, a), left, right);
-        zeros = f.add(counts.zeros, zeros);
-        ones = f.add(counts.ones, ones);
-        squares = f.add(counts.squares, squares);
+        zeros = zeros.plus(f, counts.share, counts.zeros);
+        ones = ones.plus(f, counts.share, counts.ones);
+        squares = squares.plus(f, counts.share, counts.squares);
     }
-    [zeros, f.sub(f.sub(ones, zeros), squares), squares]
+    let constant = zeros.residue(f);
+    let square = squares.residue(f);
+    [constant, f.sub(f.sub(ones.residue(f), constant), square), square]
 }
 
 // The message from the two points: the first coordinates of each row are fixed, and there are 2^k values.

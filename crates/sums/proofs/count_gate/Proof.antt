@@ -20,26 +20,20 @@ gate-value-requires c κs = search needs
 gate-value-requires-2 : tie.Need-gate-value-requires-2
 gate-value-requires-2 c κs = search needs
 
-mul-requires-3 : tie.Need-mul-requires-3
-mul-requires-3 c κs = search needs
-
 sub-requires : tie.Need-sub-requires
 sub-requires c κs = search needs
 
-mul-requires-4 : tie.Need-mul-requires-4
-mul-requires-4 c κs = search needs
-
 returns : tie.Need-returns
 returns c =
-    let args = c .before .before .before .before .before .before .before .before .args in
-    counted _ _ _ (args .l) (args .r) true _ _
+    let args = c .before .before .before .before .before .before .args in
+    counted _ _ _ (args .l) (args .r) true _ _ _
     (⊎-elim (λ w. ap (λ (t : Bool). t || args .r .one) (w .taken)) (λ w. ap₂ _||_ (w .0 .left) (w .1 .taken)) (c .if1 .came))
-    (cc) (cc)
+    (cc) (cc) (cc)
 
 returns-2 : tie.Need-returns-2
 returns-2 c =
-    let args = c .before .before .before .before .before .before .before .before .before .args in
-    counted _ _ _ (args .l) (args .r) false _ _ (ap₂ _||_ (c .before .if1 .left) (c .if2 .left)) (cc) (cc)
+    let args = c .before .before .before .before .before .before .before .args in
+    counted _ _ _ (args .l) (args .r) false _ _ _ (ap₂ _||_ (c .before .if1 .left) (c .if2 .left)) (cc) (cc) (cc)
 
 pub count-gate-spec : {M : Type 1} → statement M
 count-gate-spec =
@@ -49,8 +43,6 @@ count-gate-spec =
     mul-requires-2
     gate-value-requires
     gate-value-requires-2
-    mul-requires-3
     sub-requires
-    mul-requires-4
     returns
     returns-2)
