@@ -81,11 +81,21 @@ fn read_wire(shares: &[u32], table: &[u32], c: Cut, wire: u32) -> Wire
     }
 }
 
+// The product of the shares of a gate's wires. While no coordinate of v is fixed the right one is 1, and the product takes no division.
+fn both_shares(f: Field, left: u32, right: u32) -> u32
+    ensures { λ r. ⌜ r ≡ numbers f .mul left right ⌝ }
+{
+    if right == Field::ONE {
+        return f.reduce_once(left as u64);
+    }
+    f.mul(left, right)
+}
+
 // A gate, by its weight and its wires.
 fn count_gate(f: Field, kind: u32, weight: u32, l: Wire, r: Wire) -> Counts
     ensures { λ c. ⌜ Counted (numbers f) kind weight l r c ⌝ }
 {
-    let share = f.mul(weight, f.mul(l.share, r.share));
+    let share = f.mul(weight, both_shares(f, l.share, r.share));
     let own = evaluation::gate_value(f, kind, l.own, r.own);
     let other = evaluation::gate_value(f, kind, l.other, r.other);
     let squares = f.sub(own, other);
@@ -136,7 +146,11 @@ fn by_gates(
     }
     let constant = zeros.residue(f);
     let square = squares.residue(f);
-    [constant, f.sub(f.sub(ones.residue(f), constant), square), square]
+    [
+        constant,
+        f.sub(f.sub(ones.residue(f), constant), square),
+        square,
+    ]
 }
 
 // The message from the two points: the first coordinates of each row are fixed, and there are 2^k values.

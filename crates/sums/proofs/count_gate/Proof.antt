@@ -8,11 +8,11 @@ use borrow.Author.Needs.{needs}
 use Rattle.sums.proofs.count_gate.Statement.{statement}
 use Rattle.sums.proofs.count_gate.Tie as tie
 
+both-shares-requires : tie.Need-both-shares-requires
+both-shares-requires c κs = search needs
+
 mul-requires : tie.Need-mul-requires
 mul-requires c κs = search needs
-
-mul-requires-2 : tie.Need-mul-requires-2
-mul-requires-2 c κs = search needs
 
 gate-value-requires : tie.Need-gate-value-requires
 gate-value-requires c κs = search needs
@@ -39,8 +39,8 @@ pub count-gate-spec : {M : Type 1} → statement M
 count-gate-spec =
     tie.close
     (tie.spec
+    both-shares-requires
     mul-requires
-    mul-requires-2
     gate-value-requires
     gate-value-requires-2
     sub-requires
