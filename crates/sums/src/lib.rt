@@ -153,6 +153,57 @@ fn by_gates(
     ]
 }
 
+// The message from the left side and the right point, of which the first `second` coordinates are fixed; `next` says whether the next one is
+// its own. With none fixed the one share is 1 and the table is the values, and no array is made for them.
+fn by_side(
+    f: Field,
+    gates: &[u32],
+    weights: &[u32],
+    shares: &[u32],
+    table: &[u32],
+    cut: Cut,
+    values: &[u32],
+    v: [u32; MAX_COORDINATES],
+    second: usize,
+    k: usize,
+    next: bool,
+) -> [u32; 3]
+    requires { ⌜ Fits cut × (second ≤ k) × (k ≤ maxExponent) ⌝ }
+    ensures { λ m. ⌜ m ≡ sumsOf (numbers f) (now (weights .entry)) (side (now (shares .entry)) (now (table .entry)) cut) (sideOf (numbers f) k (take maxWidth (now (values .entry))) (take second v) next) (gatesIn (now (gates .entry))) ⌝ }
+{
+    let n = lists::least(MAX_WIDTH, values.len());
+    let rcut = cut_at(k, second, next);
+    if second == 0 {
+        let one = [Field::ONE];
+        return by_gates(
+            f,
+            gates,
+            weights,
+            shares,
+            table,
+            cut,
+            &one,
+            &values[..n],
+            rcut,
+        );
+    }
+    let mut rshares = [0u32; MAX_WIDTH];
+    tables::weights(f, v, second, &mut rshares);
+    let mut rtable = [0u32; MAX_WIDTH];
+    tables::folded(f, values, v, second, &mut rtable);
+    by_gates(
+        f,
+        gates,
+        weights,
+        shares,
+        table,
+        cut,
+        &rshares[..legality::width(second as u32)],
+        &rtable[..n >> second],
+        rcut,
+    )
+}
+
 // The message from the two points: the first coordinates of each row are fixed, and there are 2^k values.
 fn by_points(
     f: Field,
@@ -169,26 +220,23 @@ fn by_points(
     ensures { λ m. ⌜ m ≡ sumsOf (numbers f) (now (weights .entry)) (sideOf (numbers f) k (take maxWidth (now (values .entry))) (take first u) (ltb first k)) (sideOf (numbers f) k (take maxWidth (now (values .entry))) (take second v) (leb k first)) (gatesIn (now (gates .entry))) ⌝ }
 {
     let n = lists::least(MAX_WIDTH, values.len());
-    let lcut = cut_at(k, first, first < k);
-    let rcut = cut_at(k, second, k <= first);
-    let mut lshares = [0u32; MAX_WIDTH];
-    tables::weights(f, u, first, &mut lshares);
-    let mut rshares = [0u32; MAX_WIDTH];
-    tables::weights(f, v, second, &mut rshares);
-    let mut ltable = [0u32; MAX_WIDTH];
-    tables::folded(f, values, u, first, &mut ltable);
-    let mut rtable = [0u32; MAX_WIDTH];
-    tables::folded(f, values, v, second, &mut rtable);
-    by_gates(
+    let cut = cut_at(k, first, first < k);
+    let mut shares = [0u32; MAX_WIDTH];
+    tables::weights(f, u, first, &mut shares);
+    let mut table = [0u32; MAX_WIDTH];
+    tables::folded(f, values, u, first, &mut table);
+    by_side(
         f,
         gates,
         weights,
-        &lshares[..legality::width(first as u32)],
-        &ltable[..n >> first],
-        lcut,
-        &rshares[..legality::width(second as u32)],
-        &rtable[..n >> second],
-        rcut,
+        &shares[..legality::width(first as u32)],
+        &table[..n >> first],
+        cut,
+        values,
+        v,
+        second,
+        k,
+        k <= first,
     )
 }
 
