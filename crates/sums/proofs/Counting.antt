@@ -8,6 +8,7 @@ use native.Mathlib.Nat.{mul-zero, zero-mod}
 use native.Mathlib.Omega.{arith}
 use lib.ListN.{length, getD}
 use Rattle.algebra.specs.Numbers.{Numbers, words}
+use Rattle.algebra.proofs.Euclid.{mod-mul-right}
 use Rattle.multilinear.specs.Extension.{sumFrom}
 use Rattle.circuit.specs.Gate.{Gate, operate}
 use Rattle.sumcheck.specs.Gatewise.{Side, threeSums, gateShare, gateIsOne, gateOwn, gateOther, sumsOf}
@@ -20,6 +21,10 @@ use Rattle.sums.specs.Wire.{Reads, Counted}
 module _ (p : ℕ) where
   abbrev N : Numbers ℕ
   N = words p
+
+  -- a product by a word is one by its residue
+  pub by-share : (weight both product : ℕ) → both % p ≡ product → N .mul weight both ≡ N .mul weight product
+  by-share weight both product e = sym (mod-mul-right weight both p) ∙ ap (N .mul weight) e
 
   -- A GATE'S FACTORS, by its bit
   pub counted : (kind weight : ℕ) (l r : Wire) (b : Bool) (share own squares : ℕ) → l .one || r .one ≡ b

@@ -5,10 +5,10 @@ use tables::MAX_WIDTH;
 use tally::Tally;
 ghost use mathlib.Core.Path.{_≡_};
 ghost use mathlib.Core.List.{[]};
-ghost use Prim.Native.Nat.{_≤_, min};
+ghost use Prim.Native.Nat.{_%_, _≤_, min};
 ghost use lib.Dec.{ltb, leb};
 ghost use lib.ListN.{take};
-ghost use Rattle.field.specs.Modulus.{numbers};
+ghost use Rattle.field.specs.Modulus.{modulus, numbers};
 ghost use Rattle.tables.specs.Table.{maxWidth};
 ghost use Rattle.circuit.specs.Limits.{maxExponent};
 ghost use Rattle.sumcheck.specs.Gatewise.{sideOf, sumsOf, sumByGates};
@@ -81,12 +81,13 @@ fn read_wire(shares: &[u32], table: &[u32], c: Cut, wire: u32) -> Wire
     }
 }
 
-// The product of the shares of a gate's wires. While no coordinate of v is fixed the right one is 1, and the product takes no division.
+// The product of the shares of a gate's wires, or a word with its residue: while no coordinate of v is fixed the right share is 1, and the left one
+// is the answer as it stands.
 fn both_shares(f: Field, left: u32, right: u32) -> u32
-    ensures { λ r. ⌜ r ≡ numbers f .mul left right ⌝ }
+    ensures { λ r. ⌜ r % modulus f ≡ numbers f .mul left right ⌝ }
 {
     if right == Field::ONE {
-        return f.reduce_once(left as u64);
+        return left;
     }
     f.mul(left, right)
 }
