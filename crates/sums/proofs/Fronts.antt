@@ -130,13 +130,15 @@ module _ (p : ℕ) (gs : List Gate) (point : List ℕ) (above : ℕ) (vs : List 
   round-is ep er small ef es ew t e =
       let fewer = min-le-right fixed k in
       let few : first ≤ k = omega arith in
-      let left : take first (getD rows 0 []) ≡ fixedFirst k fixed rows = ap (λ (n : ℕ). take n (getD rows 0 [])) ef ∙ take-least fixed k (getD rows 0 []) in
+      let left : take first (getD rows 0 []) ≡ fixedFirst k fixed rows =
+      ap (λ (n : ℕ). take n (getD rows 0 [])) ef ∙ take-least fixed k (getD rows 0 []) in
       let rest : fixed - first ≡ fixed - k = omega (arith, sub-add-min-cancel fixed k) in
       let right : take second (getD rows 1 []) ≡ fixedSecond k fixed rows =
       ap (λ (n : ℕ). take n (getD rows 1 [])) (es ∙ ap (λ (n : ℕ). min n k) rest) ∙ take-least (fixed - k) k (getD rows 1 []) in
       let count : first ≡ length (fixedFirst k fixed rows) = sym (length-take-le first (getD rows 0 []) (omega arith)) ∙ ap length left in
       let weigh : take width table ≡ weights (words p) (take above point) =
-      weights-lent p (min above maxExponent) width (take above point) table (length-take above point ∙ ap (min above) ep) (min-le-right above maxExponent) ew t in
+      weights-lent p (min above maxExponent) width (take above point) table
+      (length-take above point ∙ ap (min above) ep) (min-le-right above maxExponent) ew t in
       e
       ∙ ap₂ (λ (ps xs : List ℕ). sumsOf (words p) ps (sideOf (words p) k vs xs (ltb first k))
       (sideOf (words p) k vs (take second (getD rows 1 [])) (leb k first)) gs) weigh left

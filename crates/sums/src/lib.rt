@@ -16,16 +16,16 @@ ghost use Rattle.summand.specs.Gates.{gatesIn};
 ghost use Rattle.sums.specs.Wire.{CutAt, Fits, side, Reads, Counted};
 ghost use Rattle.sums.specs.Round.{fixedFirst, fixedSecond};
 
-// How a wire's number is cut: its `free` last bits are for the coordinates not fixed, `size` is 2^free, and `half` half of it, or 0 where the
-// next coordinate is the other point's.
+// How a wire's number is cut: its `free` last bits are for the coordinates not fixed, `size` is 2^free, and `half` half of it, or 0 where
+// the next coordinate is the other point's.
 struct Cut {
     free: usize,
     size: usize,
     half: usize,
 }
 
-// What the tables of one point say of a wire: the weight of its first bits, the value at the others, the value with the first of these turned,
-// and whether that bit is 1.
+// What the tables of one point say of a wire: the weight of its first bits, the value at the others, the value with the first of these
+// turned, and whether that bit is 1.
 struct Wire {
     share: u32,
     own: u32,
@@ -33,8 +33,8 @@ struct Wire {
     one: bool,
 }
 
-// A gate's share, and what it is multiplied by in the sum over the gates whose bit is 0, in that over those whose bit is 1, and in that of the
-// squares.
+// A gate's share, and what it is multiplied by in the sum over the gates whose bit is 0, in that over those whose bit is 1, and in that of
+// the squares.
 struct Counts {
     share: u32,
     zeros: u32,
@@ -81,8 +81,8 @@ fn read_wire(shares: &[u32], table: &[u32], c: Cut, wire: u32) -> Wire
     }
 }
 
-// The product of the shares of a gate's wires, or a word with its residue: while no coordinate of v is fixed the right share is 1, and the left one
-// is the answer as it stands.
+// The product of the shares of a gate's wires, or a word with its residue: while no coordinate of v is fixed the right share is 1, and the
+// left one is the answer as it stands.
 fn both_shares(f: Field, left: u32, right: u32) -> u32
     ensures { λ r. ⌜ r % modulus f ≡ numbers f .mul left right ⌝ }
 {
@@ -154,8 +154,8 @@ fn by_gates(
     ]
 }
 
-// The message from the left side and the right point, of which the first `second` coordinates are fixed; `next` says whether the next one is
-// its own. With none fixed the one share is 1 and the table is the values, and no array is made for them.
+// The message from the left side and the right point, of which the first `second` coordinates are fixed; `next` says whether the next one
+// is its own. With none fixed the one share is 1 and the table is the values, and no array is made for them.
 fn by_side(
     f: Field,
     gates: &[u32],

@@ -1,5 +1,5 @@
--- A sum in two halves: a half may be exchanged for another of the same residue, and a number's high and low words, each added to its half, add
--- the number.
+-- A sum in two halves: a half may be exchanged for another of the same residue, and a number's high and low words, each added to its half,
+-- add the number.
 -- Assumes nothing.
 use Prim.Native.Nat.{ℕ, _+_, _*_, _/_, _%_}
 use mathlib.Core.Path.{_≡_, refl, sym, ap, ap₂, _∙_}

@@ -1,5 +1,5 @@
--- `by_gates` meets its contract. The loop keeps `Passed`: the three sums over the gates passed, from the last on. The measure is the number of
--- gates to come.
+-- `by_gates` meets its contract. The loop keeps `Passed`: the three sums over the gates passed, from the last on. The measure is the number
+-- of gates to come.
 -- Assumes nothing.
 use borrow.Author.Needs.{needs}
 use Rattle.field.specs.Modulus.{modulus}
@@ -95,8 +95,9 @@ loop-again c =
     let second = weighed .before .before in
     let first = second .before .before in
     let here = first .before .before .before in
-    step _ _ _ _ _ _ _ _ _ (weighed .word .result) (first .read-wire .result) (second .read-wire2 .result) (counted .count-gate .result) _ _ _
-    (here .loop .inv) (search needs) (weighed .word .ensures) (first .read-wire .ensures) (second .read-wire2 .ensures)
+    step _ _ _ _ _ _ _ _ _ (weighed .word .result) (first .read-wire .result) (second .read-wire2 .result)
+    (counted .count-gate .result) _ _ _ (here .loop .inv) (search needs) (weighed .word .ensures)
+    (first .read-wire .ensures) (second .read-wire2 .ensures)
     (counted .count-gate .ensures) (c .before .before .plus .ensures) (c .before .plus2 .ensures) (c .plus3 .ensures)
 
 residue-requires : tie.Need-residue-requires Inv-loop μ-loop

@@ -84,7 +84,8 @@ returns c =
     (sideOf (numbers (args .f)) (args .k) (take maxWidth (args .values .now)) (take (args .second) (args .v)) (leb (args .k) (args .first)))
     (gatesIn (args .gates .now)))
     (fixed-side p (args .k) (args .first) _ _ _ (args .values .now) (args .u) _ _ _ (omega arith) (omega arith)
-    (at .cut-at .ensures) (at .before .least .ensures) (sized .width .ensures) (made .weights .ensures .whole refl) (fixed .folded .ensures .whole refl))
+    (at .cut-at .ensures) (at .before .least .ensures) (sized .width .ensures)
+    (made .weights .ensures .whole refl) (fixed .folded .ensures .whole refl))
 
 pub by-points-spec : {M : Type 1} → statement M
 by-points-spec =

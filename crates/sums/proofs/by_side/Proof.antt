@@ -1,5 +1,5 @@
--- `by_side` meets its contract: with no coordinate fixed the side is one share and the values; else the parts of the arrays that are lent are
--- its tables.
+-- `by_side` meets its contract: with no coordinate fixed the side is one share and the values; else the parts of the arrays that are lent
+-- are its tables.
 -- Assumes nothing.
 use mathlib.Core.Path.{_≡_, refl, ap, _∙_}
 use native.Mathlib.Omega.{arith}
@@ -38,7 +38,8 @@ returns c =
     let at = c .before .before .before .before in
     let args = at .before .before .before .before .before .before .before .args in
     c .by-gates .ensures
-    ∙ ap (λ r. sumsOf (numbers (args .f)) (args .weights .now) (side (args .shares .now) (args .table .now) (args .cut)) r (gatesIn (args .gates .now)))
+    ∙ ap (λ r. sumsOf (numbers (args .f)) (args .weights .now)
+    (side (args .shares .now) (args .table .now) (args .cut)) r (gatesIn (args .gates .now)))
     (open-side (modulus (args .f)) (args .k) (args .second) _ (args .next) (args .values .now) (args .v) _
     (c .before .before .before .if1 .taken) (at .cut-at .ensures) (at .before .least .ensures))
 
@@ -93,19 +94,21 @@ by-gates-requires-2 c κs =
 
 returns-2 : tie.Need-returns-2
 returns-2 c =
-    let start = c .before .before .before .before .before .before .before .before .before .before .before .before .before .before .before .before .before .before in
-    let args = start .args in
-    let within = start .pre in
-    let whole = start .good .1 .1 .1 .1 .1 .1 .1 .0 in
-    let size : length (args .v) ≡ 8 = search needs in
     let sized = c .before .before .before in
     let fixed = sized .before .before in
     let made = fixed .before .before .before in
     let at = made .before .before .before in
+    let start = at .before .before .before .before .before .before .before in
+    let args = start .args in
+    let within = start .pre in
+    let whole = start .good .1 .1 .1 .1 .1 .1 .1 .0 in
+    let size : length (args .v) ≡ 8 = search needs in
     c .by-gates2 .ensures
-    ∙ ap (λ r. sumsOf (numbers (args .f)) (args .weights .now) (side (args .shares .now) (args .table .now) (args .cut)) r (gatesIn (args .gates .now)))
-    (fixed-side (modulus (args .f)) (args .k) (args .second) _ _ (args .next) (args .values .now) (args .v) _ _ _ (omega arith) (omega arith)
-    (at .cut-at .ensures) (at .before .least .ensures) (sized .width .ensures) (made .weights .ensures .whole refl) (fixed .folded .ensures .whole refl))
+    ∙ ap (λ r. sumsOf (numbers (args .f)) (args .weights .now)
+    (side (args .shares .now) (args .table .now) (args .cut)) r (gatesIn (args .gates .now)))
+    (fixed-side (modulus (args .f)) (args .k) (args .second) _ _ (args .next) (args .values .now) (args .v) _ _ _
+    (omega arith) (omega arith) (at .cut-at .ensures) (at .before .least .ensures) (sized .width .ensures)
+    (made .weights .ensures .whole refl) (fixed .folded .ensures .whole refl))
 
 pub by-side-spec : {M : Type 1} → statement M
 by-side-spec =
