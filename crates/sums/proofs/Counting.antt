@@ -1,12 +1,14 @@
 -- The three sums, built from the last gate: with `a` gates to come, they are the sums over the gates passed.
 -- Assumes nothing.
-use mathlib.Core.Path.{_≡_, sym, ap, ap₂, _∙_}
-use mathlib.Core.Bool.{Bool, cond, _||_}
+use mathlib.Core.Path.{_≡_, refl, sym, ap, ap₂, _∙_}
+use mathlib.Core.Bool.{Bool, true, false, cond, _||_}
 use mathlib.Core.List.{List, [], _∷_}
-use Prim.Native.Nat.{ℕ, _+_, _-_, _*_, _/_, _≤_, _<_}
+use Prim.Native.Nat.{ℕ, _+_, _-_, _*_, _/_, _%_, _≤_, _<_}
+use native.Mathlib.Nat.{mul-zero, zero-mod}
 use native.Mathlib.Omega.{arith}
 use lib.ListN.{length, getD}
 use Rattle.algebra.specs.Numbers.{Numbers, words}
+use Rattle.algebra.proofs.Euclid.{mod-mul-right}
 use Rattle.multilinear.specs.Extension.{sumFrom}
 use Rattle.circuit.specs.Gate.{Gate, operate}
 use Rattle.sumcheck.specs.Gatewise.{Side, threeSums, gateShare, gateIsOne, gateOwn, gateOther, sumsOf}
@@ -14,24 +16,37 @@ use Rattle.summand.specs.Gates.{gatesIn}
 use Rattle.summand.proofs.Wires.{gateAt, sumOn, sum-none, sum-step, sum-all}
 use Rattle.sums.specs.declared.Wire.{Wire}
 use Rattle.sums.specs.declared.Counts.{Counts}
-use Rattle.sums.specs.Wire.{Reads, weighed, Counted}
+use Rattle.sums.specs.Wire.{Reads, Counted}
 
 module _ (p : ℕ) where
   abbrev N : Numbers ℕ
   N = words p
 
-  -- A GATE'S PARTS, by its bit
-  pub counted : (kind weight : ℕ) (l r : Wire) (b : Bool) (value squares : ℕ) → l .one || r .one ≡ b
-      → value ≡ weighed N weight l r (operate N kind (l .own) (r .own))
-      → squares ≡ weighed N weight l r (N .sub (operate N kind (l .own) (r .own)) (operate N kind (l .other) (r .other)))
-      → Counted N kind weight l r record { zeros = cond b (N .𝟘) value; ones = cond b value (N .𝟘); squares = squares }
-  counted kind weight l r b value squares e v q = record {
+  -- a product by a word is one by its residue
+  pub by-share : (weight both product : ℕ) → both % p ≡ product → N .mul weight both ≡ N .mul weight product
+  by-share weight both product e = sym (mod-mul-right weight both p) ∙ ap (N .mul weight) e
+
+  -- A GATE'S FACTORS, by its bit
+  pub counted : (kind weight : ℕ) (l r : Wire) (b : Bool) (share own squares : ℕ) → l .one || r .one ≡ b
+      → share ≡ N .mul weight (N .mul (l .share) (r .share)) → own ≡ operate N kind (l .own) (r .own)
+      → squares ≡ N .sub (operate N kind (l .own) (r .own)) (operate N kind (l .other) (r .other))
+      → Counted N kind weight l r record { share = share; zeros = cond b (N .𝟘) own; ones = cond b own (N .𝟘); squares = squares }
+  counted kind weight l r b share own squares e w v q = record {
+    share = w;
     zeros = ap₂ (λ (t : Bool) (x : ℕ). cond t (N .𝟘) x) (sym e) v;
     ones = ap₂ (λ (t : Bool) (x : ℕ). cond t x (N .𝟘)) (sym e) v;
     squares = q;
   }
 
-  -- the same from the tables
+  by-none : (w : ℕ) → N .mul w 0 ≡ 0
+  by-none w = ap (λ (n : ℕ). n % p) (mul-zero w) ∙ zero-mod p
+
+  -- a product by a value or 0 is the product or 0
+  picked : (b : Bool) (w x y : ℕ) → N .mul w (cond b x y) ≡ cond b (N .mul w x) (N .mul w y)
+  picked true w x y = refl
+  picked false w x y = refl
+
+  -- its parts in the three sums, from the tables
   module _ (ps : List ℕ) (l r : Side ℕ) where
     abbrev zeroPart : ℕ → Gate → ℕ
     zeroPart a g = cond (gateIsOne N l r g) 0 (N .mul (gateShare N ps l r a g) (gateOwn N l r g))
@@ -44,8 +59,10 @@ module _ (p : ℕ) where
 
     tabled : (a : ℕ) (g : Gate) (weight : ℕ) (left right : Wire) (c : Counts) → weight ≡ getD ps a 0
         → Reads l (g .left) left → Reads r (g .right) right → Counted N (g .kind) weight left right c
-        → (c .zeros ≡ zeroPart a g) × (c .ones ≡ onePart a g) × (c .squares ≡ squarePart a g)
+        → (N .mul (c .share) (c .zeros) ≡ zeroPart a g) × (N .mul (c .share) (c .ones) ≡ onePart a g)
+        × (N .mul (c .share) (c .squares) ≡ squarePart a g)
     tabled a g weight left right c w hl hr h =
+        let e = h .share in
         let z = h .zeros in
         let o = h .ones in
         let s = h .squares in
@@ -57,6 +74,14 @@ module _ (p : ℕ) where
         let b₂ = hr .own in
         let b₃ = hr .other in
         let b₄ = hr .one in
+        let share = gateShare N ps l r a g in
+        let value = gateOwn N l r g in
+        let bit = gateIsOne N l r g in
+        let none = by-none share in
+        let kept : N .mul share (cond bit 0 value) ≡ zeroPart a g =
+        picked bit share 0 value ∙ ap (λ (n : ℕ). cond bit n (N .mul share value)) none in
+        let turned : N .mul share (cond bit value 0) ≡ onePart a g =
+        picked bit share value 0 ∙ ap (cond bit (N .mul share value)) none in
         (cc, cc, cc)
 
   -- THE SUMS OVER THE GATES PASSED
@@ -66,19 +91,21 @@ module _ (p : ℕ) where
     pub ones-are : ones ≡ sumOn N (onePart ps l r) (length ws / 3) ws a
     pub squares-are : squares ≡ sumOn N (squarePart ps l r) (length ws / 3) ws a
 
-  pub start : (ws ps : List ℕ) (l r : Side ℕ) → Passed ws ps l r 0 0 0 (length ws / 3)
-  start ws ps l r = record {
+  pub start : (ws ps : List ℕ) (l r : Side ℕ) (zeros ones squares : ℕ) → zeros ≡ 0 → ones ≡ 0 → squares ≡ 0
+      → Passed ws ps l r zeros ones squares (length ws / 3)
+  start ws ps l r zeros ones squares ez eo es = record {
     within = omega arith;
-    zeros-are = sum-none N (zeroPart ps l r) (length ws / 3) ws;
-    ones-are = sum-none N (onePart ps l r) (length ws / 3) ws;
-    squares-are = sum-none N (squarePart ps l r) (length ws / 3) ws;
+    zeros-are = ez ∙ sum-none N (zeroPart ps l r) (length ws / 3) ws;
+    ones-are = eo ∙ sum-none N (onePart ps l r) (length ws / 3) ws;
+    squares-are = es ∙ sum-none N (squarePart ps l r) (length ws / 3) ws;
   }
 
   pub step : (ws ps : List ℕ) (l r : Side ℕ) (zeros ones squares a weight : ℕ) (left right : Wire) (c : Counts) (zeros′ ones′ squares′ : ℕ)
       → Passed ws ps l r zeros ones squares a → 0 < a → weight ≡ getD ps (a - 1) 0
       → Reads l (getD ws (3 * (a - 1) + 1) 0) left → Reads r (getD ws (3 * (a - 1) + 2) 0) right
       → Counted N (getD ws (3 * (a - 1)) 0) weight left right c
-      → zeros′ ≡ N .add (c .zeros) zeros → ones′ ≡ N .add (c .ones) ones → squares′ ≡ N .add (c .squares) squares
+      → zeros′ ≡ N .add (N .mul (c .share) (c .zeros)) zeros → ones′ ≡ N .add (N .mul (c .share) (c .ones)) ones
+      → squares′ ≡ N .add (N .mul (c .share) (c .squares)) squares
       → Passed ws ps l r zeros′ ones′ squares′ (a - 1)
   step ws ps l r zeros ones squares a weight left right c zeros′ ones′ squares′ h more w hl hr hc ez eo es =
       let n = length ws / 3 in
@@ -86,16 +113,17 @@ module _ (p : ℕ) where
       let parts = tabled ps l r (a - 1) (gateAt ws (a - 1)) weight left right c w hl hr hc in
       record {
         within = omega arith;
-        zeros-are = ez ∙ sum-step N (zeroPart ps l r) n ws a (c .zeros) zeros more within (parts .0) (h .zeros-are);
-        ones-are = eo ∙ sum-step N (onePart ps l r) n ws a (c .ones) ones more within (parts .1) (h .ones-are);
-        squares-are = es ∙ sum-step N (squarePart ps l r) n ws a (c .squares) squares more within (parts .2) (h .squares-are);
+        zeros-are = ez ∙ sum-step N (zeroPart ps l r) n ws a _ zeros more within (parts .0) (h .zeros-are);
+        ones-are = eo ∙ sum-step N (onePart ps l r) n ws a _ ones more within (parts .1) (h .ones-are);
+        squares-are = es ∙ sum-step N (squarePart ps l r) n ws a _ squares more within (parts .2) (h .squares-are);
       }
 
-  pub end : (ws ps : List ℕ) (l r : Side ℕ) (zeros ones squares a less middle : ℕ) → Passed ws ps l r zeros ones squares a → a ≡ 0
-      → less ≡ N .sub ones zeros → middle ≡ N .sub less squares
-      → zeros ∷ middle ∷ squares ∷ [] ≡ sumsOf N ps l r (gatesIn ws)
+  pub end : (ws ps : List ℕ) (l r : Side ℕ) (zeros ones squares a zeros′ ones′ squares′ less middle : ℕ)
+      → Passed ws ps l r zeros ones squares a → a ≡ 0 → zeros′ ≡ zeros → ones′ ≡ ones → squares′ ≡ squares
+      → less ≡ N .sub ones′ zeros′ → middle ≡ N .sub less squares′
+      → zeros′ ∷ middle ∷ squares′ ∷ [] ≡ sumsOf N ps l r (gatesIn ws)
   unfolding threeSums
-  end ws ps l r zeros ones squares a less middle h e el em =
+  end ws ps l r zeros ones squares a zeros′ ones′ squares′ less middle h e ez eo es el em =
       let n = length ws / 3 in
       let all : (x : ℕ → Gate → ℕ) (s : ℕ) → s ≡ sumOn N x n ws a → s ≡ sumFrom N x 0 (gatesIn ws) =
       λ x s q. q ∙ ap (sumOn N x n ws) e ∙ sum-all N x n ws in

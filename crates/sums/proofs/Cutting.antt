@@ -1,5 +1,5 @@
--- A wire's number by its cut: the shift gives the quotient, what is left is the remainder, and half of the divisor added turns the first bit of
--- the remainder, past the divisor from its start again.
+-- A wire's number by its cut: the shift gives the quotient, what is left is the remainder, and half of the divisor added turns the first
+-- bit of the remainder, past the divisor from its start again.
 -- Assumes nothing.
 use mathlib.Core.Path.{_≡_, sym, ap, _∙_}
 use Prim.Native.Nat.{ℕ, _+_, _-_, _*_, _/_, _%_, _^_, _≤_, _<_}

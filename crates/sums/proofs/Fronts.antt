@@ -14,7 +14,7 @@ use lib.ListN.{length, take, getD, length-take}
 use lib.Pow.{shr-shr, shr-le}
 use lib.Seq.{length-take-le}
 use borrow.Author.Tests.{lt-ltb, le-ltb, le-leb, lt-leb}
-use Rattle.lists.proofs.Parts.{take-least}
+use Rattle.lists.proofs.Parts.{take-least, take-most}
 use Rattle.algebra.specs.Numbers.{Numbers, words}
 use Rattle.multilinear.specs.Extension.{fold}
 use Rattle.multilinear.specs.Tables.{weights, folded}
@@ -55,6 +55,9 @@ values-within m k n entries table t e =
 pub lent : (n : ℕ) (table : List ℕ) → n ≤ length table → n ≡ length (take n table)
 lent n table h = sym (length-take-le n table h)
 
+pub values-lent : (m n : ℕ) (values : List ℕ) → n ≡ min m (length values) → n ≡ length (take n values)
+values-lent m n values e = lent n values (omega (arith, min-le-right m (length values)))
+
 module _ (p : ℕ) where
   abbrev N : Numbers ℕ
   N = words p
@@ -88,6 +91,26 @@ module _ (p : ℕ) where
       made : List ℕ → List ℕ → ℕ → ℕ → Side ℕ
       made a b z h = record { shares = a; table = b; size = z; half = h }
 
+  -- the side of a point with n coordinates fixed, from its tables
+  pub fixed-side : (k n m w : ℕ) (next : Bool) (values xs shares table : List ℕ) (c : Cut) → n ≤ length xs → n ≤ maxExponent
+      → CutAt k n next c → m ≡ min maxWidth (length values) → w ≡ widthOf n
+      → Table (weights N (take n xs)) shares → Table (folded N (take n xs) (take maxWidth values)) table
+      → side (take w shares) (take (m / 2 ^ n) table) c ≡ sideOf N k (take maxWidth values) (take n xs) next
+  fixed-side k n m w next values xs shares table c enough small h em ew ts tt′ =
+      let size : length (take n xs) ≡ n = length-take-le n xs enough in
+      side-is k n next (take maxWidth values) (take n xs) _ _ c size h
+      (weights-lent n w (take n xs) shares size small ew ts) (folded-lent n m values (take n xs) table size em tt′)
+
+  -- with none fixed: one share, and the values
+  pub open-side : (k n m : ℕ) (next : Bool) (values xs : List ℕ) (c : Cut) → n ≡ 0 → CutAt k n next c → m ≡ min maxWidth (length values)
+      → side (1 ∷ []) (take m values) c ≡ sideOf N k (take maxWidth values) (take n xs) next
+  unfolding weights folded
+  open-side k n m next values xs c none h em =
+      side-is k n next (take maxWidth values) (take n xs) _ _ c (ap (λ (j : ℕ). length (take j xs)) none ∙ sym none) h
+      (sym (ap (λ (j : ℕ). weights N (take j xs)) none))
+      (ap (λ (j : ℕ). take j values) em ∙ take-most maxWidth values
+      ∙ sym (ap (λ (j : ℕ). folded N (take j xs) (take maxWidth values)) none))
+
 -- THE COORDINATES THAT ARE FIXED
 leb-not : (a b : ℕ) → leb a b ≡ not (ltb b a)
 leb-not a b = go (decLe a b)
@@ -107,13 +130,15 @@ module _ (p : ℕ) (gs : List Gate) (point : List ℕ) (above : ℕ) (vs : List 
   round-is ep er small ef es ew t e =
       let fewer = min-le-right fixed k in
       let few : first ≤ k = omega arith in
-      let left : take first (getD rows 0 []) ≡ fixedFirst k fixed rows = ap (λ (n : ℕ). take n (getD rows 0 [])) ef ∙ take-least fixed k (getD rows 0 []) in
+      let left : take first (getD rows 0 []) ≡ fixedFirst k fixed rows =
+      ap (λ (n : ℕ). take n (getD rows 0 [])) ef ∙ take-least fixed k (getD rows 0 []) in
       let rest : fixed - first ≡ fixed - k = omega (arith, sub-add-min-cancel fixed k) in
       let right : take second (getD rows 1 []) ≡ fixedSecond k fixed rows =
       ap (λ (n : ℕ). take n (getD rows 1 [])) (es ∙ ap (λ (n : ℕ). min n k) rest) ∙ take-least (fixed - k) k (getD rows 1 []) in
       let count : first ≡ length (fixedFirst k fixed rows) = sym (length-take-le first (getD rows 0 []) (omega arith)) ∙ ap length left in
       let weigh : take width table ≡ weights (words p) (take above point) =
-      weights-lent p (min above maxExponent) width (take above point) table (length-take above point ∙ ap (min above) ep) (min-le-right above maxExponent) ew t in
+      weights-lent p (min above maxExponent) width (take above point) table
+      (length-take above point ∙ ap (min above) ep) (min-le-right above maxExponent) ew t in
       e
       ∙ ap₂ (λ (ps xs : List ℕ). sumsOf (words p) ps (sideOf (words p) k vs xs (ltb first k))
       (sideOf (words p) k vs (take second (getD rows 1 [])) (leb k first)) gs) weigh left

@@ -31,7 +31,8 @@ module _ (k n : ℕ) (us vs : List ℕ) (eu : length us ≡ k) (ev : length vs �
       go : Dec (k ≤ n) → take n us ++ take (n - k) vs ≡ take n (us ++ vs)
       go (yes h) =
           let sum : length us + (n - k) ≡ n = omega arith in
-          ap (λ (l : List ℕ). l ++ take (n - k) vs) (take-all n us (omega arith)) ∙ sym (take-append-add us vs (n - k)) ∙ ap (λ (m : ℕ). take m (us ++ vs)) sum
+          ap (λ (l : List ℕ). l ++ take (n - k) vs) (take-all n us (omega arith))
+          ∙ sym (take-append-add us vs (n - k)) ∙ ap (λ (m : ℕ). take m (us ++ vs)) sum
       go (no h) =
           let none : n - k ≡ 0 = omega arith in
           ap (λ (m : ℕ). take n us ++ take m vs) none ∙ append-nil (take n us) ∙ sym (take-append-le n us vs (omega arith))

@@ -37,12 +37,9 @@ pub record Reads (s : Side ℕ) (i : ℕ) (w : Wire) : Type 0 where
   pub one : w .one ≡ ltb ((i + s .half) % s .size) (i % s .size)
 
 module _ (N : Numbers ℕ) where
-  -- a gate's weight, times its wires', times a value of its operation
-  abbrev pub weighed : ℕ → Wire → Wire → ℕ → ℕ
-  weighed weight l r value = N .mul (N .mul weight (N .mul (l .share) (r .share))) value
-
-  -- a gate's part in each of the three sums
+  -- a gate's weight, times its wires', and what that is multiplied by in each of the three sums
   pub record Counted (kind weight : ℕ) (l r : Wire) (c : Counts) : Type 0 where
-    pub zeros : c .zeros ≡ cond (l .one || r .one) (N .𝟘) (weighed weight l r (operate N kind (l .own) (r .own)))
-    pub ones : c .ones ≡ cond (l .one || r .one) (weighed weight l r (operate N kind (l .own) (r .own))) (N .𝟘)
-    pub squares : c .squares ≡ weighed weight l r (N .sub (operate N kind (l .own) (r .own)) (operate N kind (l .other) (r .other)))
+    pub share : c .share ≡ N .mul weight (N .mul (l .share) (r .share))
+    pub zeros : c .zeros ≡ cond (l .one || r .one) (N .𝟘) (operate N kind (l .own) (r .own))
+    pub ones : c .ones ≡ cond (l .one || r .one) (operate N kind (l .own) (r .own)) (N .𝟘)
+    pub squares : c .squares ≡ N .sub (operate N kind (l .own) (r .own)) (operate N kind (l .other) (r .other))

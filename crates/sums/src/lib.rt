@@ -2,12 +2,13 @@
 use extension::MAX_COORDINATES;
 use field::Field;
 use tables::MAX_WIDTH;
+use tally::Tally;
 ghost use mathlib.Core.Path.{_≡_};
 ghost use mathlib.Core.List.{[]};
-ghost use Prim.Native.Nat.{_≤_, min};
+ghost use Prim.Native.Nat.{_%_, _≤_, min};
 ghost use lib.Dec.{ltb, leb};
 ghost use lib.ListN.{take};
-ghost use Rattle.field.specs.Modulus.{numbers};
+ghost use Rattle.field.specs.Modulus.{modulus, numbers};
 ghost use Rattle.tables.specs.Table.{maxWidth};
 ghost use Rattle.circuit.specs.Limits.{maxExponent};
 ghost use Rattle.sumcheck.specs.Gatewise.{sideOf, sumsOf, sumByGates};
@@ -15,16 +16,16 @@ ghost use Rattle.summand.specs.Gates.{gatesIn};
 ghost use Rattle.sums.specs.Wire.{CutAt, Fits, side, Reads, Counted};
 ghost use Rattle.sums.specs.Round.{fixedFirst, fixedSecond};
 
-// How a wire's number is cut: its `free` last bits are for the coordinates not fixed, `size` is 2^free, and `half` half of it, or 0 where the
-// next coordinate is the other point's.
+// How a wire's number is cut: its `free` last bits are for the coordinates not fixed, `size` is 2^free, and `half` half of it, or 0 where
+// the next coordinate is the other point's.
 struct Cut {
     free: usize,
     size: usize,
     half: usize,
 }
 
-// What the tables of one point say of a wire: the weight of its first bits, the value at the others, the value with the first of these turned,
-// and whether that bit is 1.
+// What the tables of one point say of a wire: the weight of its first bits, the value at the others, the value with the first of these
+// turned, and whether that bit is 1.
 struct Wire {
     share: u32,
     own: u32,
@@ -32,8 +33,10 @@ struct Wire {
     one: bool,
 }
 
-// A gate's part in the sum over the gates whose bit is 0, in that over those whose bit is 1, and in that of the squares.
+// A gate's share, and what it is multiplied by in the sum over the gates whose bit is 0, in that over those whose bit is 1, and in that of
+// the squares.
 struct Counts {
+    share: u32,
     zeros: u32,
     ones: u32,
     squares: u32,
@@ -78,24 +81,36 @@ fn read_wire(shares: &[u32], table: &[u32], c: Cut, wire: u32) -> Wire
     }
 }
 
+// The product of the shares of a gate's wires, or a word with its residue: while no coordinate of v is fixed the right share is 1, and the
+// left one is the answer as it stands.
+fn both_shares(f: Field, left: u32, right: u32) -> u32
+    ensures { λ r. ⌜ r % modulus f ≡ numbers f .mul left right ⌝ }
+{
+    if right == Field::ONE {
+        return left;
+    }
+    f.mul(left, right)
+}
+
 // A gate, by its weight and its wires.
 fn count_gate(f: Field, kind: u32, weight: u32, l: Wire, r: Wire) -> Counts
     ensures { λ c. ⌜ Counted (numbers f) kind weight l r c ⌝ }
 {
-    let share = f.mul(weight, f.mul(l.share, r.share));
+    let share = f.mul(weight, both_shares(f, l.share, r.share));
     let own = evaluation::gate_value(f, kind, l.own, r.own);
     let other = evaluation::gate_value(f, kind, l.other, r.other);
-    let value = f.mul(share, own);
-    let squares = f.mul(share, f.sub(own, other));
+    let squares = f.sub(own, other);
     if l.one || r.one {
         return Counts {
+            share,
             zeros: 0,
-            ones: value,
+            ones: own,
             squares,
         };
     }
     Counts {
-        zeros: value,
+        share,
+        zeros: own,
         ones: 0,
         squares,
     }
@@ -116,9 +131,9 @@ fn by_gates(
     requires { ⌜ Fits lcut × Fits rcut ⌝ }
     ensures { λ m. ⌜ m ≡ sumsOf (numbers f) (now (weights .entry)) (side (now (lshares .entry)) (now (ltable .entry)) lcut) (side (now (rshares .entry)) (now (rtable .entry)) rcut) (gatesIn (now (gates .entry))) ⌝ }
 {
-    let mut zeros = Field::ZERO;
-    let mut ones = Field::ZERO;
-    let mut squares = Field::ZERO;
+    let mut zeros = Tally::empty();
+    let mut ones = Tally::empty();
+    let mut squares = Tally::empty();
     let mut a = gates.len() / 3;
     while 0 < a {
         a -= 1;
@@ -126,11 +141,68 @@ fn by_gates(
         let left = read_wire(lshares, ltable, lcut, gates[g + 1]);
         let right = read_wire(rshares, rtable, rcut, gates[g + 2]);
         let counts = count_gate(f, gates[g], lists::word(weights, a), left, right);
-        zeros = f.add(counts.zeros, zeros);
-        ones = f.add(counts.ones, ones);
-        squares = f.add(counts.squares, squares);
+        zeros = zeros.plus(f, counts.share, counts.zeros);
+        ones = ones.plus(f, counts.share, counts.ones);
+        squares = squares.plus(f, counts.share, counts.squares);
     }
-    [zeros, f.sub(f.sub(ones, zeros), squares), squares]
+    let constant = zeros.residue(f);
+    let square = squares.residue(f);
+    [
+        constant,
+        f.sub(f.sub(ones.residue(f), constant), square),
+        square,
+    ]
+}
+
+// The message from the left side and the right point, of which the first `second` coordinates are fixed; `next` says whether the next one
+// is its own. With none fixed the one share is 1 and the table is the values, and no array is made for them.
+fn by_side(
+    f: Field,
+    gates: &[u32],
+    weights: &[u32],
+    shares: &[u32],
+    table: &[u32],
+    cut: Cut,
+    values: &[u32],
+    v: [u32; MAX_COORDINATES],
+    second: usize,
+    k: usize,
+    next: bool,
+) -> [u32; 3]
+    requires { ⌜ Fits cut × (second ≤ k) × (k ≤ maxExponent) ⌝ }
+    ensures { λ m. ⌜ m ≡ sumsOf (numbers f) (now (weights .entry)) (side (now (shares .entry)) (now (table .entry)) cut) (sideOf (numbers f) k (take maxWidth (now (values .entry))) (take second v) next) (gatesIn (now (gates .entry))) ⌝ }
+{
+    let n = lists::least(MAX_WIDTH, values.len());
+    let rcut = cut_at(k, second, next);
+    if second == 0 {
+        let one = [Field::ONE];
+        return by_gates(
+            f,
+            gates,
+            weights,
+            shares,
+            table,
+            cut,
+            &one,
+            &values[..n],
+            rcut,
+        );
+    }
+    let mut rshares = [0u32; MAX_WIDTH];
+    tables::weights(f, v, second, &mut rshares);
+    let mut rtable = [0u32; MAX_WIDTH];
+    tables::folded(f, values, v, second, &mut rtable);
+    by_gates(
+        f,
+        gates,
+        weights,
+        shares,
+        table,
+        cut,
+        &rshares[..legality::width(second as u32)],
+        &rtable[..n >> second],
+        rcut,
+    )
 }
 
 // The message from the two points: the first coordinates of each row are fixed, and there are 2^k values.
@@ -149,26 +221,23 @@ fn by_points(
     ensures { λ m. ⌜ m ≡ sumsOf (numbers f) (now (weights .entry)) (sideOf (numbers f) k (take maxWidth (now (values .entry))) (take first u) (ltb first k)) (sideOf (numbers f) k (take maxWidth (now (values .entry))) (take second v) (leb k first)) (gatesIn (now (gates .entry))) ⌝ }
 {
     let n = lists::least(MAX_WIDTH, values.len());
-    let lcut = cut_at(k, first, first < k);
-    let rcut = cut_at(k, second, k <= first);
-    let mut lshares = [0u32; MAX_WIDTH];
-    tables::weights(f, u, first, &mut lshares);
-    let mut rshares = [0u32; MAX_WIDTH];
-    tables::weights(f, v, second, &mut rshares);
-    let mut ltable = [0u32; MAX_WIDTH];
-    tables::folded(f, values, u, first, &mut ltable);
-    let mut rtable = [0u32; MAX_WIDTH];
-    tables::folded(f, values, v, second, &mut rtable);
-    by_gates(
+    let cut = cut_at(k, first, first < k);
+    let mut shares = [0u32; MAX_WIDTH];
+    tables::weights(f, u, first, &mut shares);
+    let mut table = [0u32; MAX_WIDTH];
+    tables::folded(f, values, u, first, &mut table);
+    by_side(
         f,
         gates,
         weights,
-        &lshares[..legality::width(first as u32)],
-        &ltable[..n >> first],
-        lcut,
-        &rshares[..legality::width(second as u32)],
-        &rtable[..n >> second],
-        rcut,
+        &shares[..legality::width(first as u32)],
+        &table[..n >> first],
+        cut,
+        values,
+        v,
+        second,
+        k,
+        k <= first,
     )
 }
 

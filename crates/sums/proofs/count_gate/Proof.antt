@@ -1,18 +1,18 @@
 -- `count_gate` meets its contract: it is the definition, operation by operation, by the wires' bits.
 -- Assumes nothing.
-use mathlib.Core.Path.{ap, ap₂}
+use mathlib.Core.Path.{ap, ap₂, _∙_}
 use mathlib.Core.Logic.{⊎-elim}
 use mathlib.Core.Bool.{Bool, true, false, _||_}
-use Rattle.sums.proofs.Counting.{counted}
+use Rattle.sums.proofs.Counting.{by-share, counted}
 use borrow.Author.Needs.{needs}
 use Rattle.sums.proofs.count_gate.Statement.{statement}
 use Rattle.sums.proofs.count_gate.Tie as tie
 
+both-shares-requires : tie.Need-both-shares-requires
+both-shares-requires c κs = search needs
+
 mul-requires : tie.Need-mul-requires
 mul-requires c κs = search needs
-
-mul-requires-2 : tie.Need-mul-requires-2
-mul-requires-2 c κs = search needs
 
 gate-value-requires : tie.Need-gate-value-requires
 gate-value-requires c κs = search needs
@@ -20,37 +20,32 @@ gate-value-requires c κs = search needs
 gate-value-requires-2 : tie.Need-gate-value-requires-2
 gate-value-requires-2 c κs = search needs
 
-mul-requires-3 : tie.Need-mul-requires-3
-mul-requires-3 c κs = search needs
-
 sub-requires : tie.Need-sub-requires
 sub-requires c κs = search needs
 
-mul-requires-4 : tie.Need-mul-requires-4
-mul-requires-4 c κs = search needs
-
 returns : tie.Need-returns
 returns c =
-    let args = c .before .before .before .before .before .before .before .before .args in
-    counted _ _ _ (args .l) (args .r) true _ _
+    let shared = c .before .before .before .before in
+    let args = shared .before .before .args in
+    counted _ _ _ (args .l) (args .r) true _ _ _
     (⊎-elim (λ w. ap (λ (t : Bool). t || args .r .one) (w .taken)) (λ w. ap₂ _||_ (w .0 .left) (w .1 .taken)) (c .if1 .came))
-    (cc) (cc)
+    (shared .mul .ensures ∙ by-share _ _ _ _ (shared .before .both-shares .ensures)) (cc) (cc)
 
 returns-2 : tie.Need-returns-2
 returns-2 c =
-    let args = c .before .before .before .before .before .before .before .before .before .args in
-    counted _ _ _ (args .l) (args .r) false _ _ (ap₂ _||_ (c .before .if1 .left) (c .if2 .left)) (cc) (cc)
+    let shared = c .before .before .before .before .before in
+    let args = shared .before .before .args in
+    counted _ _ _ (args .l) (args .r) false _ _ _ (ap₂ _||_ (c .before .if1 .left) (c .if2 .left))
+    (shared .mul .ensures ∙ by-share _ _ _ _ (shared .before .both-shares .ensures)) (cc) (cc)
 
 pub count-gate-spec : {M : Type 1} → statement M
 count-gate-spec =
     tie.close
     (tie.spec
+    both-shares-requires
     mul-requires
-    mul-requires-2
     gate-value-requires
     gate-value-requires-2
-    mul-requires-3
     sub-requires
-    mul-requires-4
     returns
     returns-2)

@@ -1,4 +1,5 @@
--- `read_wire` meets its contract: quotient and remainder by the shift, and the remainder's first bit turned, past the table's end from its start.
+-- `read_wire` meets its contract: quotient and remainder by the shift, and the remainder's first bit turned, past the table's end from its
+-- start.
 -- Assumes nothing.
 use Prim.Native.Nat.{ℕ, _+_, _%_}
 use mathlib.Core.Path.{_≡_, ap, ap₂, _∙_}

@@ -1,5 +1,5 @@
--- `sum_message` meets its contract: the clipped numbers of coordinates take the coordinates that are fixed, and the part that is lent is the
--- weight list.
+-- `sum_message` meets its contract: the clipped numbers of coordinates take the coordinates that are fixed, and the part that is lent is
+-- the weight list.
 -- Assumes nothing.
 use mathlib.Core.Path.{_≡_, refl, ap, _∙_}
 use native.Mathlib.Nat.{min-le-right}
@@ -53,11 +53,13 @@ array-copy-out-v c = search needs
 
 array-share-prefix-weights : tie.Need-array-share-prefix-weights
 array-share-prefix-weights c =
-    width-within _ _ _ _ (c .before .before .before .weights2 .ensures .whole refl) (c .before .before .before .before .before .width .ensures)
+    let listed = c .before .before .before in
+    width-within _ _ _ _ (listed .weights2 .ensures .whole refl) (listed .before .before .width .ensures)
 
 slice-aggregate-by-points : tie.Need-slice-aggregate-by-points
 slice-aggregate-by-points c =
-    lent _ _ (width-within _ _ _ _ (c .before .before .before .before .weights2 .ensures .whole refl) (c .before .before .before .before .before .before .width .ensures))
+    let listed = c .before .before .before .before in
+    lent _ _ (width-within _ _ _ _ (listed .weights2 .ensures .whole refl) (listed .before .before .width .ensures))
 
 by-points-requires : tie.Need-by-points-requires
 by-points-requires c κs = search needs
@@ -66,14 +68,19 @@ returns : tie.Need-returns
 returns c =
     let start = c .before .before .before .before .before .before .before .before .before .before .before .before .before .before in
     let args = start .args in
-    let exponent = c .before .before .before .before .before .before .before .before .before .before .before .least .ensures in
     let size : length (args .point) ≡ 8 = search needs in
-    round-is (modulus (args .f)) (gatesIn (args .gates .now)) (args .point) (args .above) (take maxWidth (args .values .now)) (args .t6) _ (args .fixed)
-    _ _ _ _ (c .by-points .result) size (length-row 2 8 (args .t6) _ 0 (start .good .1 .1 .1 .1 .1 .0) (omega arith))
-    (omega (arith, exponent, min-le-right (args .k) maxExponent)) (c .before .before .before .before .before .before .before .before .before .before .least2 .ensures) (c .before .before .before .before .before .before .before .before .before .least3 .ensures)
-    (c .before .before .before .before .before .before .before .width .ensures ∙ ap widthOf (c .before .before .before .before .before .before .before .before .least4 .ensures)) (c .before .before .before .before .before .weights2 .ensures .whole refl) (c .by-points .ensures)
-    ∙ ap (λ k. sumByGates (numbers (args .f)) k (gatesIn (args .gates .now)) (take (args .above) (args .point)) (take maxWidth (args .values .now))
-    (fixedFirst k (args .fixed) (args .t6)) (fixedSecond k (args .fixed) (args .t6))) exponent
+    let listed = c .before .before .before .before .before in
+    let sized = listed .before .before in
+    let clipped = sized .before in
+    let second = clipped .before in
+    let first = second .before in
+    let exponent = first .before .least .ensures in
+    round-is (modulus (args .f)) (gatesIn (args .gates .now)) (args .point) (args .above) (take maxWidth (args .values .now)) (args .t6) _
+    (args .fixed) _ _ _ _ (c .by-points .result) size (length-row 2 8 (args .t6) _ 0 (start .good .1 .1 .1 .1 .1 .0) (omega arith))
+    (omega (arith, exponent, min-le-right (args .k) maxExponent)) (first .least2 .ensures) (second .least3 .ensures)
+    (sized .width .ensures ∙ ap widthOf (clipped .least4 .ensures)) (listed .weights2 .ensures .whole refl) (c .by-points .ensures)
+    ∙ ap (λ k. sumByGates (numbers (args .f)) k (gatesIn (args .gates .now)) (take (args .above) (args .point))
+    (take maxWidth (args .values .now)) (fixedFirst k (args .fixed) (args .t6)) (fixedSecond k (args .fixed) (args .t6))) exponent
 
 pub sum-message-spec : {M : Type 1} → statement M
 sum-message-spec =
