@@ -11,6 +11,16 @@ ghost use Rattle.circuit.specs.Gate.{gate};
 ghost use Rattle.sumcheck.specs.Summand.{wiring, combined, linePoint};
 ghost use Rattle.summand.specs.Gates.{gatesIn, gateWeight};
 
+// t times a difference, without a product where there is none: rows end in words that stand for no coordinate, and those are alike.
+fn scaled(f: Field, t: u32, difference: u32) -> u32
+    ensures { λ r. ⌜ r ≡ numbers f .mul t difference ⌝ }
+{
+    if difference == 0 {
+        return Field::ZERO;
+    }
+    f.mul(t, difference)
+}
+
 // The point of the line from the first row to the second, at t: u + t × (v - u), coordinate by coordinate.
 pub fn line_point(f: Field, points: [[u32; MAX_COORDINATES]; 2], t: u32) -> [u32; MAX_COORDINATES]
     ensures { λ r. ⌜ r ≡ linePoint (numbers f) (getD points 0 []) (getD points 1 []) t ⌝ }
@@ -19,7 +29,7 @@ pub fn line_point(f: Field, points: [[u32; MAX_COORDINATES]; 2], t: u32) -> [u32
     let mut i = 0;
     while i < MAX_COORDINATES {
         let x = points[0][i];
-        line[i] = f.add(x, f.mul(t, f.sub(points[1][i], x)));
+        line[i] = f.add(x, scaled(f, t, f.sub(points[1][i], x)));
         i += 1;
     }
     line

@@ -44,8 +44,8 @@ index-2-sub c = search needs
 sub-requires : tie.Need-sub-requires Inv-loop μ-loop
 sub-requires c κs = search needs
 
-mul-requires : tie.Need-mul-requires Inv-loop μ-loop
-mul-requires c κs = search needs
+scaled-requires : tie.Need-scaled-requires Inv-loop μ-loop
+scaled-requires c κs = search needs
 
 add-requires : tie.Need-add-requires Inv-loop μ-loop
 add-requires c κs = search needs
@@ -84,7 +84,7 @@ line-point-spec =
     index-1-sub
     index-2-sub
     sub-requires
-    mul-requires
+    scaled-requires
     add-requires
     mul-line
     array-write-line
