@@ -5,6 +5,8 @@ use refusal::Checked;
 ghost use mathlib.Core.Path.{_≡_};
 ghost use Prim.Native.Nat.{_<_};
 ghost use Rattle.circuit.specs.Circuit.{coinCount};
+ghost use lib.ListN.{length};
+ghost use Rattle.circuit.specs.Limits.{maxValues};
 ghost use Rattle.circuit.specs.Legal.{listsCause};
 ghost use Rattle.circuit.specs.Sized.{LegalCircuit};
 ghost use Rattle.evaluation.specs.Layer.{AllValues};
@@ -29,14 +31,12 @@ pub enum Message {
     Refused(Cause),
 }
 
-// The values of all layers, the output's first.
-fn all_values(circuit: &[u32], input: &[u32]) -> [u32; MAX_VALUES]
-    requires { ⌜ listsCause (now circuit) (now input) ≡ 0 ⌝ }
-    ensures { λ r. ⌜ AllValues (now (circuit .entry)) (now (input .entry)) r ⌝ }
+// Writes the values of all layers, the output's first, to the front of an array for the largest circuit's.
+fn fill_values(circuit: &[u32], input: &[u32], values: &mut [u32])
+    requires { ⌜ (listsCause (now circuit) (now input) ≡ 0) × (length (now values) ≡ maxValues) ⌝ }
+    ensures { λ _. ⌜ AllValues (now (circuit .entry)) (now (input .entry)) (now (values .exit)) ⌝ }
 {
-    let mut values = [0u32; MAX_VALUES];
-    evaluation::evaluate(circuit, input, &mut values);
-    values
+    evaluation::evaluate(circuit, input, values);
 }
 
 // Writes all messages, each directly after the one before it.
@@ -44,7 +44,8 @@ fn write_all(circuit: &[u32], input: &[u32], coins: &[u32], messages: &mut [u32]
     requires { ⌜ Provable (now circuit) (now input) (now coins) (now messages) ⌝ }
     ensures { λ r. ⌜ Writes (now (circuit .entry)) (now (input .entry)) (now (coins .entry)) (now (messages .entry)) r (now (messages .exit)) ⌝ }
 {
-    let values = all_values(circuit, input);
+    let mut values = [0u32; MAX_VALUES];
+    fill_values(circuit, input, &mut values);
     let mut n = 0;
     let mut at = 0;
     for layer in 1..circuit[1] as usize + 1 {
@@ -127,7 +128,8 @@ pub fn prove_one(circuit: &[u32], input: &[u32], prefix: &[u32], buffer: &mut [u
     if buffer.len() < words {
         return Message::Refused(Cause::BufferShort);
     }
-    let values = all_values(circuit, input);
+    let mut values = [0u32; MAX_VALUES];
+    fill_values(circuit, input, &mut values);
     messages::write_message(
         circuit,
         place.layer,

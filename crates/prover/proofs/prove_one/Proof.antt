@@ -1,11 +1,12 @@
 -- `prove_one` meets its contract: refusal by refusal, then the message of the round that follows the prefix.
 -- Assumes nothing.
-use Prim.Native.Nat.{_<_}
+use Prim.Native.Nat.{ℕ, _<_}
 use mathlib.Core.Path.{_≡_, sym, ap, _∙_}
 use mathlib.Core.Bool.{true}
 use native.Mathlib.Omega.{arith}
-use lib.ListN.{length}
+use lib.ListN.{length, length-replicate}
 use Rattle.refusal.specs.Number.{causeOf}
+use Rattle.circuit.specs.Limits.{maxValues}
 use Rattle.circuit.specs.Circuit.{primeOf, coinCount}
 use Rattle.circuit.specs.Legal.{allBelow, listsCause}
 use Rattle.circuit.specs.Sized.{LegalCircuit}
@@ -90,8 +91,11 @@ returns-4 c =
     one-short _ _ _ _ (none (told e)) (few (e .before .before .before)) (residues e) _ (found .ensures)
     (omega (arith, size, c .if3 .taken))
 
-all-values-requires : tie.Need-all-values-requires
-all-values-requires c κs = none (told (c .before .before .before))
+slice-aggregate-fill-values : tie.Need-slice-aggregate-fill-values
+slice-aggregate-fill-values c = search needs
+
+fill-values-requires : tie.Need-fill-values-requires
+fill-values-requires c κs = (none (told (c .before .before .before .before)), length-replicate {A = ℕ} maxValues 0)
 
 slice-aggregate-write-message : tie.Need-slice-aggregate-write-message
 slice-aggregate-write-message c = search needs
@@ -104,11 +108,11 @@ same-length c = search needs
 
 returns-5 : tie.Need-returns-5
 returns-5 c =
-    let at = c .before .before .before .before .before .before in
+    let at = c .before .before .before .before .before .before .before .before in
     let e = at .before .before .before in
     let found = at .before .before .place-after in
     let size = at .before .message-length in
-    let values = c .before .before .before .before .before .all-values in
+    let values = c .before .before .before .before .before .before .fill-values in
     one-written _ _ _ _ (none (told e)) (few (e .before .before .before)) (residues e) _ (found .ensures)
     _ _ _ (size .ensures) (at .if3 .left) (values .ensures)
     (c .before .before .write-message .ensures
@@ -130,7 +134,8 @@ prove-one-spec =
     place-after-requires
     message-length-requires
     returns-4
-    all-values-requires
+    slice-aggregate-fill-values
+    fill-values-requires
     slice-aggregate-write-message
     write-message-requires
     same-length

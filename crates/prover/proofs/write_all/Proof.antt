@@ -4,7 +4,7 @@ use Prim.Native.Nat.{ℕ, _+_, _-_, _*_, _≤_, _<_}
 use mathlib.Core.Path.{_≡_, refl, sym, ap, _∙_, subst}
 use mathlib.Core.List.{List}
 use native.Mathlib.Omega.{arith}
-use lib.ListN.{length, take, drop}
+use lib.ListN.{length, take, drop, length-replicate}
 use lib.Seq.{length-take-le}
 use borrow.Author.Needs.{needs}
 use Rattle.circuit.specs.Circuit.{depth, exponentAt}
@@ -16,6 +16,7 @@ use Rattle.evaluation.specs.Layer.{AllValues}
 use Rattle.protocol.specs.Judge.{messageLength}
 use Rattle.standing.specs.Standing.{AtRound}
 use Rattle.circuit.proofs.Loading.{legal-lists}
+use Rattle.circuit.specs.Limits.{maxValues}
 use Rattle.messages.specs.Writing.{valuesIn, Writable}
 use Rattle.messages.proofs.Rows.{message-size}
 use Rattle.prover.specs.Writing.{Provable}
@@ -44,13 +45,17 @@ abbrev Layer : Type 0
 Layer = tie.At-loop Inv-loop2 μ-loop2 Inv-loop μ-loop
 
 abbrev start : Layer → tie.Start Inv-loop2 μ-loop2 Inv-loop μ-loop
-start o = o .before .before .before .before .before .before .before
+start o = o .before .before .before .before .before .before .before .before .before
 
 legal : (o : Layer) → LegalCircuit (start o .args .circuit .now)
 legal o = legal-lists (start o .args .circuit .now) (start o .args .input .now) (start o .pre .lists) .circuit
 
-held : (o : Layer) → AllValues (start o .args .circuit .now) (start o .args .input .now) (o .before .before .all-values .result)
-held o = o .before .before .all-values .ensures
+-- what the evaluation left in the array
+abbrev values : Layer → List ℕ
+values o = o .before .before .before .fill-values .last .1 .1 .0
+
+held : (o : Layer) → AllValues (start o .args .circuit .now) (start o .args .input .now) (values o)
+held o = o .before .before .before .fill-values .ensures
 
 -- the inner loop starts from the buffer as it is then
 can : (o : Layer) → Provable (start o .args .circuit .now) (start o .args .input .now) (start o .args .coins .now) (o .loop .messages)
@@ -84,7 +89,7 @@ part t = take (length (t .before .loop2 .messages) - t .before .loop2 .at) (drop
 
 -- the layer's values, and the coins before the round
 abbrev own : Turn → List ℕ
-own t = valuesIn (start (layer t) .args .circuit .now) (layer t .loop .layer) (layer t .before .before .all-values .result)
+own t = valuesIn (start (layer t) .args .circuit .now) (layer t .loop .layer) (values (layer t))
 
 abbrev past : Turn → List ℕ
 past t = take (t .before .loop2 .n) (start (layer t) .args .coins .now)
@@ -92,12 +97,15 @@ past t = take (t .before .loop2 .n) (start (layer t) .args .coins .now)
 ready : (t : Turn) → Writable (start (layer t) .args .circuit .now) (layer t .loop .layer) (t .before .loop2 .round) (past t) (own t) (part t)
 ready t = writable _ _ (start (layer t) .pre .lists) _ (held (layer t)) _ _ _ (part t) (spot t) (lent-room _ _ _ _ (can (layer t)) _ _ _ _ _ (t .before .loop2 .inv .3) (more t))
 
-all-values-requires : tie.Need-all-values-requires Inv-loop2 μ-loop2 Inv-loop μ-loop
-all-values-requires c κs = c .before .before .before .before .pre .lists
+slice-aggregate-fill-values : tie.Need-slice-aggregate-fill-values Inv-loop2 μ-loop2 Inv-loop μ-loop
+slice-aggregate-fill-values c = search needs
+
+fill-values-requires : tie.Need-fill-values-requires Inv-loop2 μ-loop2 Inv-loop μ-loop
+fill-values-requires c κs = (c .before .before .before .before .before .pre .lists, length-replicate {A = ℕ} maxValues 0)
 
 shared-slice-read-layer-end : tie.Need-shared-slice-read-layer-end Inv-loop2 μ-loop2 Inv-loop μ-loop
 shared-slice-read-layer-end c =
-    let begin = c .before .before .before .before .before .before in
+    let begin = c .before .before .before .before .before .before .before .before in
     let headed = legal-lists (begin .args .circuit .now) (begin .args .input .now) (begin .pre .lists) .circuit .sized .headed in
     let long = headed .long in
     let flat = headed .shallow in
@@ -105,7 +113,7 @@ shared-slice-read-layer-end c =
 
 cast-layer-end : tie.Need-cast-layer-end Inv-loop2 μ-loop2 Inv-loop μ-loop
 cast-layer-end c =
-    let begin = c .before .before .before .before .before .before in
+    let begin = c .before .before .before .before .before .before .before .before in
     let headed = legal-lists (begin .args .circuit .now) (begin .args .input .now) (begin .pre .lists) .circuit .sized .headed in
     let long = headed .long in
     let flat = headed .shallow in
@@ -113,14 +121,14 @@ cast-layer-end c =
 
 add-layer-end : tie.Need-add-layer-end Inv-loop2 μ-loop2 Inv-loop μ-loop
 add-layer-end c =
-    let begin = c .before .before .before .before .before .before in
+    let begin = c .before .before .before .before .before .before .before .before in
     let headed = legal-lists (begin .args .circuit .now) (begin .args .input .now) (begin .pre .lists) .circuit .sized .headed in
     let long = headed .long in
     let flat = headed .shallow in
     omega arith
 
 loop-holds : tie.Need-loop-holds Inv-loop2 μ-loop2 Inv-loop μ-loop
-loop-holds c = (refl, all-start _ _ _ _ (c .before .before .before .before .before .before .pre))
+loop-holds c = (refl, all-start _ _ _ _ (c .before .before .before .before .before .before .before .before .pre))
 
 exponent-requires : tie.Need-exponent-requires Inv-loop2 μ-loop2 Inv-loop μ-loop
 exponent-requires c κs = search needs
@@ -173,7 +181,7 @@ add-at c =
     let room = inside t in
     let one = same-size _ _ _ _ (can (layer t)) _ _ _ _ _ (t .before .loop2 .inv .3) (more t) in
     let two = as-long (layer t) in
-    let known = layer t .before .before .before in
+    let known = layer t .before .before .before .before .before in
     let fits : t .before .loop2 .at + c .message-length .result ≤ length (start (layer t) .args .messages .now) = omega (arith, room, one, two, c .message-length .ensures) in
     search needs
 
@@ -222,8 +230,8 @@ loop-again c =
           (subst (λ (i : ℕ). i ≤ at .loop2 .round) (at .loop2 .inv .1) (c .loop2-test .left)),
     )
 
-array-read-t13 : tie.Need-array-read-t13 Inv-loop2 μ-loop2 Inv-loop μ-loop
-array-read-t13 c = let size = held (c .before) .size in search needs
+array-read-t15 : tie.Need-array-read-t15 Inv-loop2 μ-loop2 Inv-loop μ-loop
+array-read-t15 c = let size = held (c .before) .size in search needs
 
 same-length : tie.Need-same-length Inv-loop2 μ-loop2 Inv-loop μ-loop
 same-length c = let size = as-long (c .before) in search needs
@@ -242,7 +250,8 @@ write-all-spec =
     μ-loop2
     Inv-loop
     μ-loop
-    all-values-requires
+    slice-aggregate-fill-values
+    fill-values-requires
     shared-slice-read-layer-end
     cast-layer-end
     add-layer-end
@@ -268,6 +277,6 @@ write-all-spec =
     add-layer
     loop-less
     loop-again
-    array-read-t13
+    array-read-t15
     same-length
     returns)

@@ -1,0 +1,21 @@
+-- `fill_values` meets its contract: an evaluation of legal lists leaves all values in the array.
+-- Assumes nothing.
+use Rattle.prover.proofs.Values.{evaluated}
+use borrow.Author.Needs.{needs}
+use Rattle.prover.proofs.fill_values.Statement.{statement}
+use Rattle.prover.proofs.fill_values.Tie as tie
+
+evaluate-requires : tie.Need-evaluate-requires
+evaluate-requires c κs = search needs
+
+same-length : tie.Need-same-length
+same-length c = search needs
+
+returns : tie.Need-returns
+returns c =
+    let start = c .before .before .before .before .before .before .before in
+    let call = c .before .before .evaluate in
+    evaluated (start .args .circuit .now) (start .args .input .now) (start .pre .0) (start .args .values .now) _ (call .result) (start .pre .1) (call .ensures)
+
+pub fill-values-spec : {M : Type 1} → statement M
+fill-values-spec = tie.close (tie.spec evaluate-requires same-length returns)
