@@ -51,7 +51,7 @@ fn head(text: &mut String) {
         printed("uname", &["-sm"]),
         printed("rustc", &["--version"])
     );
-    let _ = writeln!(text, "\nThe proved library beside a plain Rust implementation of the same algorithms (`rust/plain`, products by `%`), both built for release, timed in one run in turn on the same eight random circuits of a shape; medians. A ratio is the proved library's time over the plain one's. Times on such a machine vary from run to run, ratios much less.\n");
+    let _ = writeln!(text, "\nThe proved library beside a plain Rust implementation of the same algorithms (`rust/plain`, products by `%`), both built for release, timed in one run in turn on the same 32 random circuits of a shape; medians. A ratio is the proved library's time over the plain one's. Times on such a machine vary from run to run, ratios much less.\n");
 }
 
 fn microseconds(seconds: f64) -> String {

@@ -5,7 +5,7 @@ use std::hint::black_box;
 use std::time::Instant;
 
 /// How many jobs of each shape are timed in turn.
-const JOBS: usize = 8;
+const JOBS: usize = 32;
 
 /// How many pairs of times are taken, and how long one of them should take at least, in seconds.
 const PAIRS: usize = 41;
