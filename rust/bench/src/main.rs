@@ -4,6 +4,7 @@
 //!     bench [FOLDER]      with a folder, writes benchmark.md and growth.svg there too
 mod circuits;
 mod growth;
+mod machine;
 mod operations;
 mod picture;
 mod table;
@@ -13,18 +14,19 @@ use std::path::Path;
 use std::process::ExitCode;
 use std::{env, fs, io};
 
-fn write(folder: &Path, tables: &str, growth: &growth::Growth) -> io::Result<()> {
+fn write(folder: &Path, run: &str, tables: &str, growth: &growth::Growth) -> io::Result<()> {
     fs::write(folder.join("benchmark.md"), tables)?;
-    fs::write(folder.join("growth.svg"), picture::drawn(growth))
+    fs::write(folder.join("growth.svg"), picture::drawn(run, growth))
 }
 
 fn main() -> ExitCode {
     let growth = growth::measured();
-    let tables = table::text(&table::measured(), &growth);
+    let run = machine::described();
+    let tables = table::text(&run, &table::measured(), &growth);
     print!("{tables}");
     match env::args_os().nth(1) {
         None => ExitCode::SUCCESS,
-        Some(folder) => match write(Path::new(&folder), &tables, &growth) {
+        Some(folder) => match write(Path::new(&folder), &run, &tables, &growth) {
             Ok(()) => ExitCode::SUCCESS,
             Err(problem) => {
                 eprintln!("bench: {}: {problem}", Path::new(&folder).display());

@@ -91,16 +91,17 @@ fn legend(svg: &mut String, lines: &[Line]) {
     let _ = writeln!(svg, "<text x='560' y='22'>full: proved, dashed: plain Rust</text>");
 }
 
-pub fn drawn(growth: &Growth) -> String {
+pub fn drawn(run: &str, growth: &Growth) -> String {
     let mut svg = String::from(
-        "<svg xmlns='http://www.w3.org/2000/svg' width='960' height='440' font-family='sans-serif' font-size='12'>\n",
+        "<svg xmlns='http://www.w3.org/2000/svg' width='960' height='460' font-family='sans-serif' font-size='12'>\n",
     );
-    let _ = writeln!(svg, "<rect width='960' height='440' fill='white'/>");
+    let _ = writeln!(svg, "<rect width='960' height='460' fill='white'/>");
     legend(&mut svg, &growth.by_exponent);
     Panel { left: 70.0, title: format!("Growth with k (D {DEPTH})"), letter: "k", lines: &growth.by_exponent }
         .draw(&mut svg);
     Panel { left: 550.0, title: format!("Growth with D (k {EXPONENT})"), letter: "D", lines: &growth.by_depth }
         .draw(&mut svg);
+    let _ = writeln!(svg, "<text x='70' y='448' fill='#555'>{run}</text>");
     svg.push_str("</svg>\n");
     svg
 }

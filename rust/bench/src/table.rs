@@ -4,8 +4,6 @@ use crate::growth::{Growth, Line, DEPTH, EXPONENT};
 use crate::operations::OPERATIONS;
 use crate::timing::{times, Times};
 use std::fmt::Write;
-use std::fs;
-use std::process::Command;
 
 /// A size by name: its depth and exponent.
 const SIZES: [(&str, usize, usize); 3] = [("small", 2, 2), ("middle", 8, 5), ("largest", 16, 8)];
@@ -28,30 +26,9 @@ pub fn measured() -> Vec<Row> {
     rows
 }
 
-/// The first line that a file has after a key and a colon.
-fn value_of(file: &str, key: &str) -> Option<String> {
-    let text = fs::read_to_string(file).ok()?;
-    let line = text.lines().find(|line| line.starts_with(key))?;
-    Some(line.split_once(':')?.1.trim().to_string())
-}
-
-fn printed(program: &str, arguments: &[&str]) -> String {
-    let output = Command::new(program).args(arguments).output();
-    output.map_or("unknown".to_string(), |output| String::from_utf8_lossy(&output.stdout).trim().to_string())
-}
-
-fn head(text: &mut String) {
-    let processor = value_of("/proc/cpuinfo", "model name").unwrap_or("unknown".to_string());
-    let cores = std::thread::available_parallelism().map_or(0, usize::from);
-    let _ = writeln!(text, "# Benchmark\n");
-    let _ = writeln!(
-        text,
-        "{}, on {cores} cores of {processor} ({}), {}.",
-        printed("date", &["-u", "+%F"]),
-        printed("uname", &["-sm"]),
-        printed("rustc", &["--version"])
-    );
-    let _ = writeln!(text, "\nThe proved library beside a plain Rust implementation of the same algorithms (`rust/plain`, products by `%`), both built for release, timed in one run in turn on the same 32 random circuits of a shape; medians. A ratio is the proved library's time over the plain one's. Times on such a machine vary from run to run, ratios much less.\n");
+fn head(text: &mut String, run: &str) {
+    let _ = writeln!(text, "# Benchmark\n\n{run}.\n");
+    let _ = writeln!(text, "The proved library beside a plain Rust implementation of the same algorithms (`rust/plain`, products by `%`), both built for release, timed in one run in turn on the same 32 random circuits of a shape; medians. A ratio is the proved library's time over the plain one's. Times on such a machine vary from run to run, and ratios somewhat, those of narrow circuits most.\n");
 }
 
 fn microseconds(seconds: f64) -> String {
@@ -99,9 +76,9 @@ fn axis(text: &mut String, title: &str, letter: &str, lines: &[Line]) {
     }
 }
 
-pub fn text(rows: &[Row], growth: &Growth) -> String {
+pub fn text(run: &str, rows: &[Row], growth: &Growth) -> String {
     let mut text = String::new();
-    head(&mut text);
+    head(&mut text, run);
     ratios(&mut text, rows);
     axis(&mut text, &format!("Growth with k, at D {DEPTH} and the largest p"), "k", &growth.by_exponent);
     axis(&mut text, &format!("Growth with D, at k {EXPONENT} and the largest p"), "D", &growth.by_depth);
