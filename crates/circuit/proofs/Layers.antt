@@ -19,7 +19,7 @@ use Rattle.circuit.specs.Legal.{allBelow, gateCause, gatesCause, layersC
 use Rattle.circuit.specs.Sized.{LegalCircuit}
 use Rattle.circuit.specs.Values.{layersFrom, layers, valuesAt, value}
 use Rattle.circuit.specs.Theorems.{LegalPrime, ValuesAreResidues, LayerSizes, LastLayer, LayerByLayer, WiresBelow, OutputLayer}
-use Rattle.circuit.proofs.Sized.{deep}
+use Rattle.circuit.proofs.Sized.{one-output, deep}
 use Rattle.circuit.proofs.Loading.{split-true, legal-circuit, legal-lists}
 use Rattle.circuit.proofs.Legal.{gate-wires, length-gates}
 
@@ -84,7 +84,7 @@ unfolding valuesAt layers gateLayers inputExponent
 layer-sizes c input e i h =
     let legal = legal-lists c input e in
     let size = deep c (legal .circuit) in
-    sizes-from (words (primeOf c)) outputExponent (exponents c) (drop (gatesStart c) c) input i (omega arith) (legal .sized)
+    sizes-from (words (primeOf c)) (outputExponent c) (exponents c) (drop (gatesStart c) c) input i (omega arith) (legal .sized)
 
 length-from : (N : Numbers ℕ) (ls : List (List Gate)) (input : List ℕ) → length (layersFrom N ls input) ≡ suc (length ls)
 unfolding layersFrom
@@ -94,8 +94,8 @@ length-from N (gs ∷ ls) input = ap suc (length-from N ls input)
 pub length-all-layers : (c input : List ℕ) → LegalCircuit c → length (layers c input) ≡ suc (depth c)
 unfolding layers gateLayers
 length-all-layers c input legal =
-    length-from (words (primeOf c)) (layersOf outputExponent (exponents c) (drop (gatesStart c) c)) input
-    ∙ ap suc (length-layers outputExponent (exponents c) (drop (gatesStart c) c) ∙ deep c legal)
+    length-from (words (primeOf c)) (layersOf (outputExponent c) (exponents c) (drop (gatesStart c) c)) input
+    ∙ ap suc (length-layers (outputExponent c) (exponents c) (drop (gatesStart c) c) ∙ deep c legal)
 
 -- LAYER BY LAYER
 last-from : (N : Numbers ℕ) (ls : List (List Gate)) (input : List ℕ) → getD (layersFrom N ls input) (length ls) [] ≡ input
@@ -107,10 +107,10 @@ pub last-layer : LastLayer
 unfolding valuesAt layers gateLayers
 last-layer c input e =
     let legal = legal-lists c input e in
-    let size : depth c ≡ length (layersOf outputExponent (exponents c) (drop (gatesStart c) c)) =
-    sym (length-layers outputExponent (exponents c) (drop (gatesStart c) c) ∙ deep c (legal .circuit)) in
-    ap (λ (i : ℕ). getD (layersFrom (words (primeOf c)) (layersOf outputExponent (exponents c) (drop (gatesStart c) c)) input) i []) size
-    ∙ last-from (words (primeOf c)) (layersOf outputExponent (exponents c) (drop (gatesStart c) c)) input
+    let size : depth c ≡ length (layersOf (outputExponent c) (exponents c) (drop (gatesStart c) c)) =
+    sym (length-layers (outputExponent c) (exponents c) (drop (gatesStart c) c) ∙ deep c (legal .circuit)) in
+    ap (λ (i : ℕ). getD (layersFrom (words (primeOf c)) (layersOf (outputExponent c) (exponents c) (drop (gatesStart c) c)) input) i []) size
+    ∙ last-from (words (primeOf c)) (layersOf (outputExponent c) (exponents c) (drop (gatesStart c) c)) input
 
 step-from : (N : Numbers ℕ) (ls : List (List Gate)) (input : List ℕ) (i : ℕ) → i < length ls
     → getD (layersFrom N ls input) i [] ≡ map (gateValue N (getD (layersFrom N ls input) (suc i) [])) (getD ls i [])
@@ -123,8 +123,8 @@ pub layer-by-layer : LayerByLayer
 unfolding valuesAt layers gateLayers gatesAt
 layer-by-layer c input e i h =
     let legal = legal-lists c input e in
-    let size = length-layers outputExponent (exponents c) (drop (gatesStart c) c) ∙ deep c (legal .circuit) in
-    step-from (words (primeOf c)) (layersOf outputExponent (exponents c) (drop (gatesStart c) c)) input i (omega (arith, size))
+    let size = length-layers (outputExponent c) (exponents c) (drop (gatesStart c) c) ∙ deep c (legal .circuit) in
+    step-from (words (primeOf c)) (layersOf (outputExponent c) (exponents c) (drop (gatesStart c) c)) input i (omega (arith, size))
 
 -- WIRES
 gates-wired : (next : ℕ) (gs : List Gate) → gatesCause next gs ≡ 0 → All (λ g. (g .left < next) × (g .right < next)) gs
@@ -160,7 +160,8 @@ single (x ∷ y ∷ l) e = absurd (omega arith)
 
 pub output-layer : OutputLayer
 unfolding value
-output-layer c input e = single (valuesAt c input 0) (layer-sizes c input e 0 (omega arith))
+output-layer c input e =
+    single (valuesAt c input 0) (layer-sizes c input e 0 (omega arith) ∙ ap (λ (k : ℕ). 2 ^ k) (one-output c))
 
 -- the circuit's value is a residue
 first-below : (p : ℕ) → 0 < p → (ls : List (List ℕ)) → All (λ layer. All (λ v. v < p) layer) ls → getD (getD ls 0 []) 0 0 < p

@@ -95,7 +95,7 @@ module _ (c : List ℕ) where
           pub headed : Exponents c (depth c)
           headed = record { is-depth = refl; shallow = high; long = long; small = small }
 
-pub count-words : (c : List ℕ) → 2 + depth c + 3 * gateCount outputExponent (exponents c) ≡ wordCount c
+pub count-words : (c : List ℕ) → 2 + depth c + 3 * gateCount (outputExponent c) (exponents c) ≡ wordCount c
 unfolding wordCount
 count-words c = refl
 

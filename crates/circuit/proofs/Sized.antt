@@ -67,7 +67,12 @@ count-bound k (k′ ∷ ks) l e =
     let ih = count-bound k′ ks (omega arith) (below-rest (maxExponent + 1) k′ ks e) in
     omega arith
 
-count-others : (ks : List ℕ) → allBelow (maxExponent + 1) ks ≡ true → 0 < length ks → length ks ≤ maxDepth → gateCount outputExponent ks + 255 ≤ 256 * maxDepth
+-- k_0: layer 0 is one gate
+pub one-output : (c : List ℕ) → outputExponent c ≡ 0
+unfolding outputExponent
+one-output c = refl
+
+count-others : (ks : List ℕ) → allBelow (maxExponent + 1) ks ≡ true → 0 < length ks → length ks ≤ maxDepth → gateCount 0 ks + 255 ≤ 256 * maxDepth
 unfolding gateCount
 count-others [] e l m = absurd (omega arith)
 count-others (k ∷ ks) e l m =
@@ -80,9 +85,9 @@ module _ (c : List ℕ) (d : ℕ) (h : Exponents c d) where
   unfolding exponents
   length-exponents = length-take-le (depth c) (drop 2 c) (omega (arith, length-drop 2 c, h .is-depth, h .long)) ∙ sym (h .is-depth)
 
-  pub count-small : gateCount outputExponent (exponents c) ≤ 256 * maxDepth
+  pub count-small : gateCount (outputExponent c) (exponents c) ≤ 256 * maxDepth
   count-small =
-      let b : gateCount outputExponent (exponents c) ≤ 256 * length (exponents c) = count-bound outputExponent (exponents c) (omega arith) (h .small) in
+      let b : gateCount (outputExponent c) (exponents c) ≤ 256 * length (exponents c) = count-bound (outputExponent c) (exponents c) (omega (arith, one-output c)) (h .small) in
       omega (arith, b, length-exponents, h .shallow)
 
   -- k_{i+1} is word 2 + i
@@ -93,7 +98,7 @@ module _ (c : List ℕ) (d : ℕ) (h : Exponents c d) where
   exponent-small : (i : ℕ) → i < d → getD c (2 + i) 0 ≤ maxExponent
   exponent-small i l =
       let e : getD (exponents c) i 0 < maxExponent + 1 = below-each (maxExponent + 1) (exponents c) i (h .small) (omega (arith, length-exponents)) in
-      omega (arith, e, exponent-word i l ∙ ap (λ (j : ℕ). getD (outputExponent ∷ exponents c) j 0) (add-one i))
+      omega (arith, e, exponent-word i l ∙ ap (exponentAt c) (add-one i))
 
   -- the width that the word gives
   pub width-at : (i : ℕ) → i < d → widthOf (getD c (2 + i) 0) ≡ 2 ^ exponentAt c (i + 1)
@@ -130,13 +135,13 @@ module _ (c : List ℕ) (d : ℕ) (h : Exponents c d) where
 
 module _ (c : List ℕ) (d : ℕ) (h : Sized c d) where
   -- before the first layer
-  pub sized-count : 2 + d + 3 * gateCount outputExponent (exponents c) ≡ length c
+  pub sized-count : 2 + d + 3 * gateCount (outputExponent c) (exponents c) ≡ length c
   unfolding wordCount
-  sized-count = ap (λ (n : ℕ). 2 + n + 3 * gateCount outputExponent (exponents c)) (h .headed .is-depth) ∙ sym (h .counted)
+  sized-count = ap (λ (n : ℕ). 2 + n + 3 * gateCount (outputExponent c) (exponents c)) (h .headed .is-depth) ∙ sym (h .counted)
 
-  pub layers-start : layersCause (exponents c) (gateLayers c) ≡ layersCause (exponents c) (layersOf outputExponent (exponents c) (drop (2 + d) c))
+  pub layers-start : layersCause (exponents c) (gateLayers c) ≡ layersCause (exponents c) (layersOf (outputExponent c) (exponents c) (drop (2 + d) c))
   unfolding gateLayers
-  layers-start = ap (λ (n : ℕ). layersCause (exponents c) (layersOf outputExponent (exponents c) (drop (2 + n) c))) (sym (h .headed .is-depth))
+  layers-start = ap (λ (n : ℕ). layersCause (exponents c) (layersOf (outputExponent c) (exponents c) (drop (2 + n) c))) (sym (h .headed .is-depth))
 
 -- a layer's exponent is word 1 + layer
 module _ (c : List ℕ) (layer : ℕ) (h : LayerOf c layer) (pos : 0 < layer) where
@@ -177,8 +182,8 @@ module _ (c : List ℕ) (h : LegalCircuit c) where
       ∙ ap (λ (i : ℕ). 2 ^ exponentAt c i) (sym (length-exponents c (depth c) (h .sized .headed)))
 
   -- one gate in layer 0 and at most 256 in each of the others
-  pub count-tight : gateCount outputExponent (exponents c) + 255 ≤ 256 * maxDepth
-  count-tight = count-others (exponents c) (h .sized .headed .small) (omega (arith, size, h .some)) (omega (arith, size, h .sized .headed .shallow))
+  pub count-tight : gateCount (outputExponent c) (exponents c) + 255 ≤ 256 * maxDepth
+  count-tight = rw one-output (count-others (exponents c) (h .sized .headed .small) (omega (arith, size, h .some)) (omega (arith, size, h .sized .headed .shallow)))
     where
       size : length (exponents c) ≡ depth c
       size = length-exponents c (depth c) (h .sized .headed)

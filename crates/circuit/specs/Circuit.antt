@@ -20,13 +20,13 @@ depth c = getD c 1 0
 unfoldable pub exponents : List ℕ → List ℕ
 exponents c = take (depth c) (drop 2 c)
 
--- "k_0 is 0 and not written"
-abbrev pub outputExponent : ℕ
-outputExponent = 0
+-- k_0: it "is 0 and not written"
+unfoldable pub outputExponent : List ℕ → ℕ
+outputExponent c = 0
 
 -- k_i
 abbrev pub exponentAt : List ℕ → ℕ → ℕ
-exponentAt c i = getD (outputExponent ∷ exponents c) i 0
+exponentAt c i = getD (outputExponent c ∷ exponents c) i 0
 
 -- "Layer i has 2^k gates for its width exponent": none where the exponent is too large
 unfoldable pub widthOf : ℕ → ℕ
@@ -53,7 +53,7 @@ gatesStart c = 2 + depth c
 
 -- the gates of layers 0 to D-1
 unfoldable pub gateLayers : List ℕ → List (List Gate)
-gateLayers c = layersOf outputExponent (exponents c) (drop (gatesStart c) c)
+gateLayers c = layersOf (outputExponent c) (exponents c) (drop (gatesStart c) c)
 
 -- the gates of layer i
 unfoldable pub gatesAt : List ℕ → ℕ → List Gate
@@ -61,7 +61,7 @@ gatesAt c i = getD (gateLayers c) i []
 
 -- the words that the exponents call for
 unfoldable pub wordCount : List ℕ → ℕ
-wordCount c = gatesStart c + 3 * gateCount outputExponent (exponents c)
+wordCount c = gatesStart c + 3 * gateCount (outputExponent c) (exponents c)
 
 -- k_D, and the number of input words
 unfoldable pub inputExponent : List ℕ → ℕ
@@ -72,11 +72,11 @@ inputCount c = 2 ^ inputExponent c
 
 -- all gate and input words
 unfoldable pub valueCount : List ℕ → ℕ
-valueCount c = gateCount outputExponent (exponents c) + inputCount c
+valueCount c = gateCount (outputExponent c) (exponents c) + inputCount c
 
--- "Each message has one coin: n is the sum of 2k_i + 1. The messages have 7k_i + 1 words a layer."
+-- "Each message has one coin: n is the sum of 2k_i + 1", after the k_0 coins before any message. "The messages have 7k_i + 1 words a layer."
 unfoldable pub coinCount : List ℕ → ℕ
-coinCount c = sum (map (λ k. 2 * k + 1) (exponents c))
+coinCount c = outputExponent c + sum (map (λ k. 2 * k + 1) (exponents c))
 
 unfoldable pub messageWords : List ℕ → ℕ
 messageWords c = sum (map (λ k. 7 * k + 1) (exponents c))

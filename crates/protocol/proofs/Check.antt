@@ -3,7 +3,7 @@
 use Prim.Native.Nat.{ℕ, _<_}
 use mathlib.Core.Path.{_≡_, refl, sym, ap, _∙_}
 use mathlib.Core.Bool.{Bool, false}
-use mathlib.Core.List.{List, []}
+use mathlib.Core.List.{List}
 use lib.Dec.{eqb, ltb}
 use lib.ListN.{length}
 use borrow.Author.Tests.{eq-eqb, eqb-true, lt-ltb, ltb-true}
@@ -13,17 +13,17 @@ use Rattle.refusal.proofs.Order.{first-none, need-none, first-more, need-more}
 use Rattle.circuit.specs.Circuit.{primeOf, coinCount, messageWords}
 use Rattle.circuit.specs.Legal.{allBelow, listsCause}
 use Rattle.circuit.proofs.Layers.{all-below, below-all}
-use Rattle.walk.specs.Game.{walk}
-use Rattle.walk.specs.Rule.{Rule, said, play, byRule}
+use Rattle.walk.specs.Rule.{Rule, play, byRule}
 use Rattle.walk.proofs.Play.{walk-said}
 use Rattle.walk.proofs.Session.{said-sized, sized-words}
+use Rattle.protocol.specs.Start.{firstPoint, laterCoins, firstClaim}
 use Rattle.protocol.specs.Rounds.{Place, rounds}
-use Rattle.protocol.specs.Judge.{descent}
-use Rattle.protocol.specs.Check.{needCoins, checkAnswer}
+use Rattle.protocol.specs.Judge.{descent, inputAgrees}
+use Rattle.protocol.specs.Check.{needCoins, walkFrom, checkAnswer}
 use Rattle.protocol.specs.Session.{openCause}
-use Rattle.protocol.specs.Prove.{transcript}
+use Rattle.protocol.specs.Prove.{messagesOn, transcript}
 use Rattle.protocol.specs.Accept.{FitsCircuit}
-use Rattle.protocol.proofs.Rounds.{as-many}
+use Rattle.protocol.proofs.Rounds.{coins-split}
 use Rattle.protocol.proofs.Sums.{message-words}
 
 -- OPENING: what no refusal says
@@ -65,10 +65,10 @@ check-large c input y cs ms e l = rw (e, l) refl
 -- what refuses an opening refuses the check, and the rest is tried after it
 pub check-opening : (c input : List ℕ) (y : ℕ) (cs ms : List ℕ)
     → checkAnswer c input y cs ms
-    ≡ first (openCause c input y cs) (need (eqb (length ms) (messageWords c)) 14 (walk (descent c input) (rounds c) [] y ms cs))
+    ≡ first (openCause c input y cs) (need (eqb (length ms) (messageWords c)) 14 (walkFrom c input (firstClaim c y cs) cs ms))
 unfolding checkAnswer openCause
 check-opening c input y cs ms =
-    let rest : ℕ = need (eqb (length ms) (messageWords c)) 14 (walk (descent c input) (rounds c) [] y ms cs) in
+    let rest : ℕ = need (eqb (length ms) (messageWords c)) 14 (walkFrom c input (firstClaim c y cs) cs ms) in
     let number = eqb (length cs) (coinCount c) in
     let small = allBelow (primeOf c) cs in
     sym (first-more (listsCause c input) (need (ltb y (primeOf c)) 13 (needCoins c cs 0)) rest
@@ -77,24 +77,25 @@ check-opening c input y cs ms =
 
 -- once nothing is refused, the walk decides
 pub check-walk : (c input : List ℕ) (y : ℕ) (cs ms : List ℕ) → Opened c input y cs → length ms ≡ messageWords c
-    → checkAnswer c input y cs ms ≡ walk (descent c input) (rounds c) [] y ms cs
+    → checkAnswer c input y cs ms ≡ walkFrom c input (firstClaim c y cs) cs ms
 unfolding checkAnswer
 check-walk c input y cs ms o n =
     rw (o .lists, lt-ltb y (primeOf c) (o .output)) (coins-taken c cs _ (o .coins))
-    ∙ ap (λ (b : Bool). need b 14 (walk (descent c input) (rounds c) [] y ms cs)) (eq-eqb (length ms) (messageWords c) n)
+    ∙ ap (λ (b : Bool). need b 14 (walkFrom c input (firstClaim c y cs) cs ms)) (eq-eqb (length ms) (messageWords c) n)
 
 -- a rule's transcript has the exact length
-pub length-transcript : (c input : List ℕ) (rule : Rule Place) → FitsCircuit c input rule
-    → (cs : List ℕ) → CoinList (primeOf c) (coinCount c) cs → length (transcript c input rule cs) ≡ messageWords c
+pub length-transcript : (c : List ℕ) (rule : Rule Place) → FitsCircuit c rule
+    → (cs : List ℕ) → CoinList (primeOf c) (coinCount c) cs → length (transcript c rule cs) ≡ messageWords c
 unfolding transcript descent
-length-transcript c input rule fits cs v =
-    sized-words (descent c input) (rounds c) (said (descent c input) rule (rounds c) [] cs)
-    (said-sized (descent c input) rule (rounds c) [] cs (fits cs v) (v .0 ∙ sym (as-many c)))
+length-transcript c rule fits cs v =
+    sized-words (descent c) (rounds c) (messagesOn c rule cs)
+    (said-sized (descent c) rule (rounds c) (firstPoint c cs) (laterCoins c cs) (fits cs v) (coins-split c cs v .later .0))
     ∙ message-words c
 
-pub whole-play : (c input : List ℕ) (y : ℕ) (cs : List ℕ) → Opened c input y cs → (rule : Rule Place) → FitsCircuit c input rule
-    → checkAnswer c input y cs (transcript c input rule cs) ≡ play (descent c input) (byRule rule) (rounds c) [] y cs
+pub whole-play : (c input : List ℕ) (y : ℕ) (cs : List ℕ) → Opened c input y cs → (rule : Rule Place) → FitsCircuit c rule
+    → checkAnswer c input y cs (transcript c rule cs) ≡ play (descent c) (inputAgrees c input) (byRule rule) (rounds c) (firstPoint c cs) (firstClaim c y cs) (laterCoins c cs)
 unfolding transcript
 whole-play c input y cs o rule fits =
-    check-walk c input y cs (transcript c input rule cs) o (length-transcript c input rule fits cs (o .coins))
-    ∙ walk-said (descent c input) rule (rounds c) [] y cs (fits cs (o .coins))
+    check-walk c input y cs (transcript c rule cs) o (length-transcript c rule fits cs (o .coins))
+    ∙ walk-said (descent c) (inputAgrees c input) rule (rounds c) (firstPoint c cs) (firstClaim c y cs) (laterCoins c cs)
+    (fits cs (o .coins))

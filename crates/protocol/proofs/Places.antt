@@ -7,7 +7,7 @@ use native.Mathlib.Omega.{arith}
 use lib.ListN.{length, take, drop, getD, drop-of-length-le, List·getD-append}
 use lib.Seq.{drop-cons, getD-append-add}
 use Rattle.lists.proofs.Count.{sum-nil, sum-cons}
-use Rattle.circuit.specs.Circuit.{exponents, exponentAt}
+use Rattle.circuit.specs.Circuit.{outputExponent, exponents, exponentAt}
 use Rattle.protocol.specs.Rounds.{Place, place, roundsOf, roundsFrom, rounds, coinsOf, layerStart}
 use Rattle.protocol.proofs.Rounds.{length-roundsOf}
 
@@ -81,5 +81,6 @@ at-layer i (k ∷ ks) (suc l) j d n h =
     ∙ at-layer (suc i) ks l j d (omega arith) h ∙ ap (λ (m : ℕ). place m j) (omega arith)
 
 pub place-at : (c : List ℕ) (l j : ℕ) (d : Place) → l < length (exponents c) → j ≤ 2 * exponentAt c (suc l)
-    → getD (rounds c) (layerStart c (suc l) + j) d ≡ place (suc l) j
-place-at c l j d n h = at-layer 1 (exponents c) l j d n h ∙ ap (λ (m : ℕ). place m j) (omega arith)
+    → getD (rounds c) (layerStart c (suc l) + j - outputExponent c) d ≡ place (suc l) j
+place-at c l j d n h =
+    ap (λ (m : ℕ). getD (rounds c) m d) (omega arith) ∙ at-layer 1 (exponents c) l j d n h ∙ ap (λ (m : ℕ). place m j) (omega arith)

@@ -9,7 +9,7 @@ use lib.ListN.{length, length-append, length-drop, take, drop, getD, drop-of-len
 use lib.Seq.{take-all, take-append-le, drop-append-le, take-at, getD-at}
 use Rattle.lists.proofs.Count.{sum-take}
 use Rattle.algebra.specs.Numbers.{words}
-use Rattle.circuit.specs.Circuit.{primeOf, exponents, exponentAt}
+use Rattle.circuit.specs.Circuit.{primeOf, outputExponent, exponents, exponentAt}
 use Rattle.sumcheck.specs.Summand.{linePoint}
 use Rattle.protocol.specs.Rounds.{layerStart}
 use Rattle.protocol.specs.Judge.{fixed, lineEnd, pointAt}
@@ -32,7 +32,7 @@ module _ (c : List ℕ) where
   pub point-more : (i : ℕ) (past more : List ℕ) → i ≤ length (exponents c) → layerStart c i ≤ length past
       → pointAt c i (past ++ more) ≡ pointAt c i past
   point-more zero past more n h = refl
-  point-more (suc zero) past more n h = refl
+  point-more (suc zero) past more n h = take-append-le (outputExponent c) past more (omega arith)
   point-more (suc (suc l)) past more n h =
       let k : ℕ = exponentAt c (suc l) in
       let s : ℕ = layerStart c (suc l) in

@@ -1,7 +1,7 @@
 -- What Prove writes is accepted: where it refuses nothing it writes the honest transcript, which is accepted on every coin list. With this
 -- demand 3 is whole.
 -- Assumes nothing.
-use Prim.Native.Nat.{ℕ, zero, suc, _<_}
+use Prim.Native.Nat.{ℕ, zero, suc, _+_, _<_}
 use mathlib.Core.Path.{_≡_, refl, sym, ap, ap₂, _∙_}
 use mathlib.Core.Bool.{Bool, true, false, cond, false≢true}
 use mathlib.Core.List.{List}
@@ -14,11 +14,12 @@ use Rattle.lists.proofs.Buffer.{take-over}
 use Rattle.counting.specs.Coins.{CoinList}
 use Rattle.refusal.specs.Order.{need}
 use Rattle.refusal.proofs.Order.{first-none, need-none}
-use Rattle.circuit.specs.Circuit.{primeOf, coinCount, messageWords}
+use Rattle.circuit.specs.Circuit.{primeOf, outputExponent, coinCount, messageWords}
 use Rattle.circuit.specs.Legal.{allBelow, listsCause}
 use Rattle.circuit.specs.Values.{value}
 use Rattle.circuit.proofs.Layers.{all-below}
 use Rattle.walk.specs.Game.{passes}
+use Rattle.protocol.specs.Start.{coinsTo}
 use Rattle.protocol.specs.Judge.{messageLength}
 use Rattle.protocol.specs.Check.{checkAnswer}
 use Rattle.protocol.specs.Prove.{Proof, proved, refused, OneMessage, wrote, proofOf, oneOf, honest, transcript, placeOf, proveCause, proveAnswer, proveBuffer, proveOneCause, proveOneAnswer, proveOneBuffer}
@@ -63,8 +64,8 @@ proved-accepted c input cs buffer y n e =
     let number = need-none (eqb (length cs) (coinCount c)) 10 _ (lists .1) in
     let small = need-none (allBelow (primeOf c) cs) 11 _ (number .1) in
     let coins : CoinList (primeOf c) (coinCount c) cs = (eqb-true (length cs) (coinCount c) (number .0), all-below (primeOf c) cs (small .0)) in
-    let all : List ℕ = transcript c input (honest c input) cs in
-    let size : length all ≡ n = length-transcript c input (honest c input) (honest-fits c input (lists .0)) cs coins ∙ told .2 in
+    let all : List ℕ = transcript c (honest c input) cs in
+    let size : length all ≡ n = length-transcript c (honest c input) (honest-fits c input (lists .0)) cs coins ∙ told .2 in
     let written : take n (cond (eqb (proveCause c input cs buffer) 0) (over all buffer) buffer) ≡ all =
     ap (λ (k : ℕ). take n (cond (eqb k 0) (over all buffer) buffer)) (told .0) ∙ ap (λ (k : ℕ). take k (over all buffer)) (sym size) ∙ take-over all buffer in
     ap₂ (λ (v : ℕ) (ms : List ℕ). checkAnswer c input v cs ms) (sym (told .1)) written
@@ -73,11 +74,13 @@ proved-accepted c input cs buffer y n e =
 pub proved-in-turn : ProvedInTurn
 unfolding proveOneAnswer proveOneBuffer proveOneCause
 proved-in-turn c input cs buffer j n size e =
-    let none = no-cause-one (proveOneCause c input (take j cs) buffer) (messageLength c (placeOf c (take j cs))) n e in
+    let prefix : List ℕ = coinsTo c j cs in
+    let none = no-cause-one (proveOneCause c input prefix buffer) (messageLength c (placeOf c prefix)) n e in
     let lists = first-none (listsCause c input) _ none in
-    let few = need-none (ltb (length (take j cs)) (coinCount c)) 10 _ (lists .1) in
-    let short : j < coinCount c = omega (arith, ltb-true (length (take j cs)) (coinCount c) (few .0), length-take j cs, size) in
-    ap (λ (k : ℕ). cond (eqb k 0) (over (honest c input (placeOf c (take j cs)) (take j cs)) buffer) buffer) none
+    let few = need-none (ltb (length prefix) (coinCount c)) 10 _ (lists .1) in
+    let short : outputExponent c + j < coinCount c =
+    omega (arith, ltb-true (length prefix) (coinCount c) (few .0), length-take (outputExponent c + j) cs, size) in
+    ap (λ (k : ℕ). cond (eqb k 0) (over (honest c input (placeOf c prefix) prefix) buffer) buffer) none
     ∙ ap (λ (m : List ℕ). over m buffer) (sym (honest-by-prefix c input cs j size short))
 
 pub demand3 : Demand3

@@ -5,12 +5,12 @@ use Prim.Native.Nat.{ℕ, zero, suc, _+_, _-_, _*_, _≤_, _<_}
 use mathlib.Core.Path.{_≡_, refl, sym, ap, ap₂, _∙_, subst}
 use mathlib.Core.Bool.{Bool, true, false, _&&_, cond, true≢false, false≢true}
 use mathlib.Core.List.{List, [], _∷_, _++_, append-nil}
-use native.Mathlib.Nat.{not-suc-le-zero}
+use native.Mathlib.Nat.{not-suc-le-zero, suc-ne-zero}
 use native.Mathlib.Numerals.{add-one}
 use native.Mathlib.Omega.{arith}
 use lib.Dec.{eqb}
-use lib.ListN.{length, length-drop, take, drop}
-use lib.Seq.{length-take-le}
+use lib.ListN.{length, length-drop, take, drop, drop-of-length-le}
+use lib.Seq.{length-take-le, take-all}
 use borrow.Author.Tests.{eq-eqb, eqb-true}
 use Rattle.lists.specs.Each.{All}
 use Rattle.lists.proofs.Count.{sum-nil}
@@ -19,7 +19,7 @@ use Rattle.multilinear.specs.Extension.{extension}
 use Rattle.multilinear.proofs.Words.{one-word}
 use Rattle.refusal.proofs.Order.{first-none}
 use Rattle.circuit.specs.Gate.{Gate}
-use Rattle.circuit.specs.Circuit.{primeOf, depth, exponents, exponentAt, gatesAt}
+use Rattle.circuit.specs.Circuit.{primeOf, depth, outputExponent, exponents, exponentAt, gatesAt}
 use Rattle.circuit.specs.Legal.{loadAnswer, listsCause}
 use Rattle.circuit.specs.Values.{valuesAt, value}
 use Rattle.circuit.proofs.Loading.{legal-lists}
@@ -28,17 +28,22 @@ use Rattle.circuit.proofs.Layers.{legal-prime, layer-sizes, last-layer, layer-b
 use Rattle.sumcheck.specs.Summand.{combined, summand, cube, partialSum}
 use Rattle.sumcheck.proofs.Words.{layer-identity, sum-of-two, sum-message-value, line-message-value, line-ends, sum-message-words, line-message-words}
 use Rattle.walk.specs.Session.{Follows}
-use Rattle.protocol.specs.Rounds.{Place, place, layerStart, isLine, coinsBefore}
+use Rattle.protocol.specs.Start.{firstPoint, firstClaim}
+use Rattle.protocol.specs.Rounds.{Place, place, layerStart, isLine, AtRound}
 use Rattle.protocol.specs.Judge.{fixed, pointAt, gatesAbove, lineClaim, messageAt, messageLength, compared, descent}
 use Rattle.protocol.specs.Prove.{honest}
+use Rattle.protocol.proofs.Rounds.{within}
 use Rattle.protocol.proofs.Points.{fixed-more, fixed-none, point-more, point-line}
 
--- a round of the walk, after the coins before it
-pub record Here (c : List ℕ) (r : Place) (past : List ℕ) : Type 0 where
-  pub above : 0 < r .layer
-  pub within : r .layer ≤ length (exponents c)
-  pub reached : r .round ≤ 2 * exponentAt c (r .layer)
-  pub counted : coinsBefore c r ≡ length past
+-- the first claim rests on the coins before any message alone
+pub claim-before : (c : List ℕ) (y : ℕ) (cs : List ℕ) → firstClaim c y cs ≡ firstClaim c y (firstPoint c cs)
+unfolding firstClaim
+claim-before c y cs = refl
+
+-- and is a residue where the output is one
+pub claim-below : (c : List ℕ) (y : ℕ) (cs : List ℕ) → y < primeOf c → firstClaim c y cs < primeOf c
+unfolding firstClaim
+claim-below c y cs h = h
 
 module _ (c input : List ℕ) where
   -- the true claim at a round, and after the last
@@ -80,28 +85,28 @@ module _ (c input : List ℕ) (legal : listsCause c input ≡ 0) where
 
   module _ (past : List ℕ) where
     -- layer i's coordinates so far, and its two points at the line
-    length-fixed : (i j : ℕ) → Here c (place i j) past → length (fixed c i past) ≡ j
-    length-fixed i j h = let n : layerStart c i + j ≡ length past = h .counted in rw length-drop (omega arith)
+    length-fixed : (i j : ℕ) → AtRound c (place i j) (length past) → length (fixed c i past) ≡ j
+    length-fixed i j h = let n : length past ≡ layerStart c i + j = h .counted in rw length-drop (omega arith)
 
-    sum-round : (i j : ℕ) → isLine c (place i j) ≡ false → Here c (place i j) past → j < 2 * exponentAt c i
+    sum-round : (i j : ℕ) → isLine c (place i j) ≡ false → AtRound c (place i j) (length past) → j < 2 * exponentAt c i
     sum-round i j eb h =
         let ne : ¬ (j ≡ 2 * exponentAt c i) = λ (q : j ≡ 2 * exponentAt c i). true≢false (sym (eq-eqb j (2 * exponentAt c i) q) ∙ eb) in
         let le : j ≤ 2 * exponentAt c i = h .reached in
         omega arith
 
-    length-first : (i j : ℕ) → isLine c (place i j) ≡ true → Here c (place i j) past → length (take (exponentAt c i) (fixed c i past)) ≡ exponentAt c i
+    length-first : (i j : ℕ) → isLine c (place i j) ≡ true → AtRound c (place i j) (length past) → length (take (exponentAt c i) (fixed c i past)) ≡ exponentAt c i
     length-first i j eb h =
         let lx : length (fixed c i past) ≡ j = length-fixed i j h in
         let ej : j ≡ 2 * exponentAt c i = eqb-true j (2 * exponentAt c i) eb in
         length-take-le (exponentAt c i) (fixed c i past) (omega arith)
 
-    length-second : (i j : ℕ) → isLine c (place i j) ≡ true → Here c (place i j) past → length (drop (exponentAt c i) (fixed c i past)) ≡ exponentAt c i
+    length-second : (i j : ℕ) → isLine c (place i j) ≡ true → AtRound c (place i j) (length past) → length (drop (exponentAt c i) (fixed c i past)) ≡ exponentAt c i
     length-second i j eb h =
         let lx : length (fixed c i past) ≡ j = length-fixed i j h in
         let ej : j ≡ 2 * exponentAt c i = eqb-true j (2 * exponentAt c i) eb in
         rw length-drop (omega arith)
 
-    words-at : (i j : ℕ) (b : Bool) → isLine c (place i j) ≡ b → Here c (place i j) past
+    words-at : (i j : ℕ) (b : Bool) → isLine c (place i j) ≡ b → AtRound c (place i j) (length past)
         → (length (honest c input (place i j) past) ≡ messageLength c (place i j)) × All (λ w. w < primeOf c) (honest c input (place i j) past)
     unfolding honest messageLength
     words-at i j false eb h =
@@ -111,7 +116,7 @@ module _ (c input : List ℕ) (legal : listsCause c input ≡ 0) where
         let w = line-message-words (primeOf c) positive (valuesAt c input i) (take k (fixed c i past)) (drop k (fixed c i past)) in
         rw eb (w .0 ∙ ap suc (length-first i j eb h) ∙ sym (add-one k), w .1)
 
-    compared-at : (i j : ℕ) (b : Bool) → isLine c (place i j) ≡ b → Here c (place i j) past
+    compared-at : (i j : ℕ) (b : Bool) → isLine c (place i j) ≡ b → AtRound c (place i j) (length past)
         → compared c (isLine c (place i j)) (place i j) past (honest c input (place i j) past) ≡ truthAt c input (place i j) past
     unfolding honest compared truthAt lineClaim
     compared-at i j false eb h =
@@ -135,22 +140,22 @@ module _ (c input : List ℕ) (legal : listsCause c input ≡ 0) where
         ∙ sym (sum-fixed p k (gatesAbove c i) (pointAt c i past) vs xs lx))
 
     -- the next round's true claim, as a function of the coin
-    next-sum : (i j t : ℕ) (rs : List Place) → isLine c (place i j) ≡ false → Here c (place i j) past → Follows (descent c input) (place i j) rs
+    next-sum : (i j t : ℕ) (rs : List Place) → isLine c (place i j) ≡ false → AtRound c (place i j) (length past) → Follows (descent c) (place i j) rs
         → messageAt c (honest c input (place i j) past) t ≡ truth c input rs (past ++ (t ∷ []))
     unfolding descent truth honest truthAt
     next-sum i j t [] eb h f = absurd (false≢true (sym (ap (λ (b : Bool). b && eqb i (length (exponents c))) eb) ∙ f))
     next-sum i j t (r ∷ rs) eb h f =
         let er : place i (suc j) ≡ r = sym (ap (λ (b : Bool). cond b (place (suc i) 0) (place i (suc j))) eb) ∙ f .1 in
-        subst (λ (x : Place). messageAt c (honest c input (place i j) past) t ≡ truthAt c input x (past ++ (t ∷ []))) er (go (h .counted) (h .within))
+        subst (λ (x : Place). messageAt c (honest c input (place i j) past) t ≡ truthAt c input x (past ++ (t ∷ []))) er (go (h .counted) (within c (place i j) (length past) h))
       where
-        go : layerStart c i + j ≡ length past → i ≤ length (exponents c)
+        go : length past ≡ layerStart c i + j → i ≤ length (exponents c)
             → messageAt c (honest c input (place i j) past) t ≡ truthAt c input (place i (suc j)) (past ++ (t ∷ []))
         go n w =
             rw (eb, point-more c i past (t ∷ []) w (omega arith), fixed-more c i past t (omega arith))
             (sum-message-value (primeOf c) positive (exponentAt c i) (gatesAbove c i) (pointAt c i past) (valuesAt c input i) (fixed c i past) t)
 
     -- the line's value is that of the extension at the point which the coin gives
-    line-at : (l t : ℕ) → Here c (place (suc l) (2 * exponentAt c (suc l))) past
+    line-at : (l t : ℕ) → AtRound c (place (suc l) (2 * exponentAt c (suc l))) (length past)
         → messageAt c (honest c input (place (suc l) (2 * exponentAt c (suc l))) past) t
         ≡ extension (words (primeOf c)) (valuesAt c input (suc l)) (pointAt c (suc (suc l)) (past ++ (t ∷ [])))
     unfolding honest
@@ -160,10 +165,10 @@ module _ (c input : List ℕ) (legal : listsCause c input ≡ 0) where
         let il : isLine c (place (suc l) (2 * k)) ≡ true = eq-eqb (2 * k) (2 * k) refl in
         rw il
         (line-message-value (primeOf c) positive (valuesAt c input (suc l)) (take k xs) (drop k xs) t
-        ∙ ap (extension (words (primeOf c)) (valuesAt c input (suc l))) (sym (point-line c l past t (h .counted))))
+        ∙ ap (extension (words (primeOf c)) (valuesAt c input (suc l))) (sym (point-line c l past t (sym (h .counted)))))
 
-    next-line : (l t : ℕ) (rs : List Place) → Here c (place (suc l) (2 * exponentAt c (suc l))) past
-        → Follows (descent c input) (place (suc l) (2 * exponentAt c (suc l))) rs
+    next-line : (l t : ℕ) (rs : List Place) → AtRound c (place (suc l) (2 * exponentAt c (suc l))) (length past)
+        → Follows (descent c) (place (suc l) (2 * exponentAt c (suc l))) rs
         → messageAt c (honest c input (place (suc l) (2 * exponentAt c (suc l))) past) t ≡ truth c input rs (past ++ (t ∷ []))
     unfolding descent truth truthAt
     next-line l t [] h f =
@@ -179,42 +184,48 @@ module _ (c input : List ℕ) (legal : listsCause c input ≡ 0) where
         let ne : ¬ (suc l ≡ length (exponents c)) = λ (q : suc l ≡ length (exponents c)).
         true≢false (sym (eq-eqb (suc l) (length (exponents c)) q) ∙ sym (ap (λ (b : Bool). b && eqb (suc l) (length (exponents c))) il) ∙ f .0) in
         let er : place (suc (suc l)) 0 ≡ r = sym (ap (λ (b : Bool). cond b (place (suc (suc l)) 0) (place (suc l) (suc (2 * k)))) il) ∙ f .1 in
-        let w : suc l ≤ length (exponents c) = h .within in
-        let none : fixed c (suc (suc l)) (past ++ (t ∷ [])) ≡ [] = fixed-none c l past t (omega arith) (h .counted) in
+        let w : suc l ≤ length (exponents c) = within c (place (suc l) (2 * k)) (length past) h in
+        let none : fixed c (suc (suc l)) (past ++ (t ∷ [])) ≡ [] = fixed-none c l past t (omega arith) (sym (h .counted)) in
         let sum : truthAt c input (place (suc (suc l)) 0) (past ++ (t ∷ []))
         ≡ extension (words (primeOf c)) (valuesAt c input (suc l)) (pointAt c (suc (suc l)) (past ++ (t ∷ []))) =
         rw none (layer-sum (suc l) (pointAt c (suc (suc l)) (past ++ (t ∷ []))) (omega arith)) in
         line-at l t h ∙ sym sum ∙ ap (λ (x : Place). truthAt c input x (past ++ (t ∷ []))) er
 
-    next-at : (i j t : ℕ) (b : Bool) (rs : List Place) → isLine c (place i j) ≡ b → Here c (place i j) past → Follows (descent c input) (place i j) rs
+    next-at : (i j t : ℕ) (b : Bool) (rs : List Place) → isLine c (place i j) ≡ b → AtRound c (place i j) (length past) → Follows (descent c) (place i j) rs
         → messageAt c (honest c input (place i j) past) t ≡ truth c input rs (past ++ (t ∷ []))
     next-at i j t false rs eb h f = next-sum i j t rs eb h f
-    next-at zero j t true rs eb h f = absurd (not-suc-le-zero (h .above))
+    next-at zero j t true rs eb h f = absurd (not-suc-le-zero (h .first))
     next-at (suc l) j t true rs eb h f =
         let ej : j ≡ 2 * exponentAt c (suc l) = eqb-true j (2 * exponentAt c (suc l)) eb in
         subst (λ (x : ℕ). messageAt c (honest c input (place (suc l) x) past) t ≡ truth c input rs (past ++ (t ∷ []))) (sym ej)
-        (next-line l t rs (subst (λ (x : ℕ). Here c (place (suc l) x) past) ej h)
-        (subst (λ (x : ℕ). Follows (descent c input) (place (suc l) x) rs) ej f))
+        (next-line l t rs (subst (λ (x : ℕ). AtRound c (place (suc l) x) (length past)) ej h)
+        (subst (λ (x : ℕ). Follows (descent c) (place (suc l) x) rs) ej f))
 
   -- THE HONEST MESSAGE at any round
-  pub honest-words : (r : Place) (past : List ℕ) → Here c r past
+  pub honest-words : (r : Place) (past : List ℕ) → AtRound c r (length past)
       → (length (honest c input r past) ≡ messageLength c r) × All (λ w. w < primeOf c) (honest c input r past)
   honest-words r past h = words-at past (r .layer) (r .round) (isLine c r) refl h
 
-  pub honest-compared : (r : Place) (past : List ℕ) → Here c r past → compared c (isLine c r) r past (honest c input r past) ≡ truthAt c input r past
+  pub honest-compared : (r : Place) (past : List ℕ) → AtRound c r (length past) → compared c (isLine c r) r past (honest c input r past) ≡ truthAt c input r past
   honest-compared r past h = compared-at past (r .layer) (r .round) (isLine c r) refl h
 
-  pub honest-next : (r : Place) (rs : List Place) (past : List ℕ) (t : ℕ) → Here c r past → Follows (descent c input) r rs
+  pub honest-next : (r : Place) (rs : List Place) (past : List ℕ) (t : ℕ) → AtRound c r (length past) → Follows (descent c) r rs
       → messageAt c (honest c input r past) t ≡ truth c input rs (past ++ (t ∷ []))
   honest-next r rs past t h f = next-at past (r .layer) (r .round) t (isLine c r) rs refl h f
 
-  -- there is a layer, and before its first round the true claim is the circuit's value
+  -- there is a layer, and after the coins before its first round the true claim is the first claim of the circuit's value
   pub some-layer : 0 < length (exponents c)
   some-layer = subst (λ (d : ℕ). 0 < d) (sym (deep c (legal-lists c input legal .circuit))) (legal-lists c input legal .circuit .some)
 
-  pub first-truth : truthAt c input (place 1 0) [] ≡ value c input
+  -- the values above layer 1 are the output, whose extension at the first point is its first claim
+  output-claim : (us : List ℕ) → length us ≡ outputExponent c → extension (words (primeOf c)) (valuesAt c input 0) us ≡ firstClaim c (value c input) us
+  unfolding outputExponent firstClaim
+  output-claim [] e = ap (λ (vs : List ℕ). extension (words (primeOf c)) vs []) (output-layer c input legal) ∙ one-word (primeOf c) (value c input) (value-below c input legal)
+  output-claim (u ∷ us) e = absurd (suc-ne-zero _ e)
+
+  pub first-truth : (us : List ℕ) → length us ≡ outputExponent c → truthAt c input (place 1 0) us ≡ firstClaim c (value c input) us
   unfolding truthAt
-  first-truth =
-      let p : ℕ = primeOf c in
-      rw sum-nil (layer-sum 0 [] some-layer)
-      ∙ ap (λ (vs : List ℕ). extension (words p) vs []) (output-layer c input legal) ∙ one-word p (value c input) (value-below c input legal)
+  first-truth us e =
+      let none : fixed c 1 us ≡ [] = drop-of-length-le us {i = layerStart c 1} (omega (arith, sum-nil)) in
+      let all : firstPoint c us ≡ us = take-all (outputExponent c) us (omega arith) in
+      rw (none, all) (layer-sum 0 us some-layer) ∙ output-claim us e

@@ -14,6 +14,7 @@ use Rattle.circuit.specs.Circuit.{primeOf, exponents, exponentAt, gatesAt}
 use Rattle.circuit.specs.Legal.{allBelow}
 use Rattle.sumcheck.specs.Summand.{combined, linePoint}
 use Rattle.walk.specs.Game.{Game}
+use Rattle.protocol.specs.Start.{firstPoint}
 use Rattle.protocol.specs.Rounds.{Place, layerStart, isLine, coinsBefore, placeAfter, isLast}
 
 -- THE POINTS, read off the coins handed out: layer i's coins so far are its coordinates that are fixed so far, those of u first
@@ -24,10 +25,10 @@ fixed c i past = drop (layerStart c i) past
 abbrev pub lineEnd : List ℕ → ℕ → List ℕ → List ℕ
 lineEnd c k cs = linePoint (words (primeOf c)) (take k cs) (take k (drop k cs)) (getD cs (2 * k) 0)
 
--- the standing point at layer i: "the point as the empty point" at layer 1, then the line's of the layer before
+-- the standing point at layer i: the first point at layer 1, then the line's of the layer before
 abbrev pub pointAt : List ℕ → ℕ → List ℕ → List ℕ
 pointAt c zero past = []
-pointAt c (suc zero) past = []
+pointAt c (suc zero) past = firstPoint c past
 pointAt c (suc (suc l)) past =
     lineEnd c (exponentAt c (suc l)) (take (2 * exponentAt c (suc l) + 1) (drop (layerStart c (suc l)) past))
 
@@ -62,18 +63,17 @@ judge c r past claim m =
     (need (allBelow (primeOf c) m) 15
     (need (eqb (compared c (isLine c r) r past m) claim) (cond (isLine c r) 17 16) 0))
 
--- "After layer D the input's extension at the point must equal the claim."
-unfoldable pub inputAgrees : List ℕ → List ℕ → List ℕ → ℕ → Bool
-inputAgrees c input past claim = eqb (extension (words (primeOf c)) input (pointAt c (suc (length (exponents c))) past)) claim
-
--- the walk down a circuit, as a game
-unfoldable pub descent : List ℕ → List ℕ → Game Place
-descent c input = record {
+-- the walk down a circuit, as a game: what judges a message knows no input
+unfoldable pub descent : List ℕ → Game Place
+descent c = record {
   len = messageLength c;
   judge = judge c;
   next = messageAt c;
-  final = inputAgrees c input;
   before = coinsBefore c;
   after = placeAfter c;
   last = isLast c;
 }
+
+-- THE LAST COMPARISON, the one that takes the input: "After layer D the input's extension at the point must equal the claim."
+unfoldable pub inputAgrees : List ℕ → List ℕ → List ℕ → ℕ → Bool
+inputAgrees c input past claim = eqb (extension (words (primeOf c)) input (pointAt c (suc (length (exponents c))) past)) claim

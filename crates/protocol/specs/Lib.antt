@@ -1,3 +1,4 @@
+pub mod Start
 pub mod Rounds
 pub mod Judge
 pub mod Check

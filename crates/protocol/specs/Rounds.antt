@@ -1,12 +1,14 @@
 -- The rounds of a circuit's walk, as a session's record names them: "Rounds count from 0; round 2k_i is the line."
 -- Assumes nothing.
-use Prim.Native.Nat.{ℕ, zero, suc, _+_, _*_}
+use Prim.Native.Nat.{ℕ, zero, suc, _+_, _*_, _≤_}
+use mathlib.Core.Path.{_≡_}
 use mathlib.Core.Bool.{Bool, _&&_, cond}
 use mathlib.Core.List.{List, [], _∷_, _++_, map}
 use lib.Dec.{eqb}
 use lib.ListN.{length, take}
 use Rattle.lists.specs.Count.{sum}
-use Rattle.circuit.specs.Circuit.{exponents, exponentAt}
+use Rattle.circuit.specs.Circuit.{depth, outputExponent, exponents, exponentAt}
+use Rattle.circuit.specs.Sized.{LegalCircuit}
 
 -- a place of the walk: the layer from 1 on, the round from 0 on
 pub record Place : Type 0 where
@@ -36,7 +38,7 @@ coinsOf ks = sum (map (λ k. 2 * k + 1) ks)
 -- the coins before layer i
 abbrev pub layerStart : List ℕ → ℕ → ℕ
 layerStart c zero = 0
-layerStart c (suc l) = coinsOf (take l (exponents c))
+layerStart c (suc l) = outputExponent c + coinsOf (take l (exponents c))
 
 abbrev pub isLine : List ℕ → Place → Bool
 isLine c r = eqb (r .round) (2 * exponentAt c (r .layer))
@@ -50,3 +52,11 @@ placeAfter c r = cond (isLine c r) (place (suc (r .layer)) 0) (place (r .layer) 
 
 abbrev pub isLast : List ℕ → Place → Bool
 isLast c r = isLine c r && eqb (r .layer) (length (exponents c))
+
+-- a round of a legal circuit, after n coins: those before it
+pub record AtRound (c : List ℕ) (r : Place) (n : ℕ) : Type 0 where
+  pub legal : LegalCircuit c
+  pub first : 1 ≤ r .layer
+  pub last : r .layer ≤ depth c
+  pub reached : r .round ≤ 2 * exponentAt c (r .layer)
+  pub counted : n ≡ coinsBefore c r

@@ -1,35 +1,36 @@
 -- Open and Step.
 -- Assumes nothing.
 use Prim.Native.Nat.{ℕ, zero, suc, _*_}
-use mathlib.Core.Bool.{Bool, true, _&&_}
+use mathlib.Core.Bool.{Bool, _&&_}
 use mathlib.Core.List.{List, [], _∷_}
 use lib.Dec.{ltb, leb}
 use lib.ListN.{length}
 use Rattle.refusal.specs.Order.{need, first}
 use Rattle.circuit.specs.Circuit.{primeOf, exponents, exponentAt}
 use Rattle.circuit.specs.Legal.{listsCause}
-use Rattle.walk.specs.Session.{Answer, refused, Record, step}
+use Rattle.walk.specs.Session.{Answer, refused, Record, at, step}
+use Rattle.protocol.specs.Start.{firstClaim}
 use Rattle.protocol.specs.Rounds.{Place, place}
-use Rattle.protocol.specs.Judge.{descent}
+use Rattle.protocol.specs.Judge.{descent, inputAgrees}
 use Rattle.protocol.specs.Check.{needCoins}
 
 -- "Open session: 1 to 9, 13, 11, 12. The record has layer 1, round 0, the claim, and is open."
 unfoldable pub openCause : List ℕ → List ℕ → ℕ → List ℕ → ℕ
 openCause c input y cs = first (listsCause c input) (need (ltb y (primeOf c)) 13 (needCoins c cs 0))
 
-abbrev pub openedAt : ℕ → Record Place
-openedAt y = record { round = place 1 0; claim = y; opened = true }
+abbrev pub openedAt : List ℕ → ℕ → List ℕ → Record Place
+openedAt c y cs = at (place 1 0) (firstClaim c y cs)
 
 pub data OpenAnswer : Type 0 where
   opens : Record Place → OpenAnswer
   refuses : ℕ → OpenAnswer
 
-abbrev pub openedBy : ℕ → ℕ → OpenAnswer
-openedBy zero y = opens (openedAt y)
-openedBy (suc cause) y = refuses (suc cause)
+abbrev pub openedBy : ℕ → Record Place → OpenAnswer
+openedBy zero s = opens s
+openedBy (suc cause) s = refuses (suc cause)
 
 unfoldable pub openAnswer : List ℕ → List ℕ → ℕ → List ℕ → OpenAnswer
-openAnswer c input y cs = openedBy (openCause c input y cs) y
+openAnswer c input y cs = openedBy (openCause c input y cs) (openedAt c y cs)
 
 -- "19 the record is ended, its layer or round is outside this circuit, or its claim isn't below p"
 unfoldable pub recordFits : List ℕ → Record Place → Bool
@@ -45,7 +46,7 @@ stepCause c input cs s = first (listsCause c input) (needCoins c cs (need (recor
 
 -- a refusal before the message is looked at leaves the record
 abbrev pub stepAfter : ℕ → List ℕ → List ℕ → List ℕ → Record Place → List ℕ → Answer × Record Place
-stepAfter zero c input cs s m = step (descent c input) cs s m
+stepAfter zero c input cs s m = step (descent c) (inputAgrees c input) cs s m
 stepAfter (suc cause) c input cs s m = (refused (suc cause), s)
 
 unfoldable pub stepAnswer : List ℕ → List ℕ → List ℕ → Record Place → List ℕ → Answer × Record Place
@@ -55,3 +56,7 @@ stepAnswer c input cs s m = stepAfter (stepCause c input cs s) c input cs s m
 unfoldable pub steps : List ℕ → List ℕ → List ℕ → Record Place → List (List ℕ) → List Answer
 steps c input cs s [] = []
 steps c input cs s (m ∷ ms) = stepAnswer c input cs s m .0 ∷ steps c input cs (stepAnswer c input cs s m .1) ms
+
+-- a session's answers after its opening
+abbrev pub sessionOn : List ℕ → List ℕ → ℕ → List ℕ → List (List ℕ) → List Answer
+sessionOn c input y cs ms = steps c input cs (openedAt c y cs) ms

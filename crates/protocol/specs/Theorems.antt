@@ -8,16 +8,17 @@ use lib.ListN.{length, take, getD}
 use Rattle.lists.specs.Buffer.{over}
 use Rattle.counting.specs.Coins.{CoinList, passing}
 use Rattle.counting.specs.Doomed.{luckless}
-use Rattle.circuit.specs.Circuit.{primeOf, coinCount, messageWords, exponentSum}
+use Rattle.circuit.specs.Circuit.{primeOf, outputExponent, coinCount, messageWords, exponentSum}
 use Rattle.circuit.specs.Legal.{listsCause}
 use Rattle.circuit.specs.Values.{value}
-use Rattle.walk.specs.Rule.{Rule, said}
+use Rattle.walk.specs.Rule.{Rule}
 use Rattle.walk.specs.Session.{endOf, cut}
+use Rattle.protocol.specs.Start.{coinsTo}
 use Rattle.protocol.specs.Rounds.{Place, rounds}
 use Rattle.protocol.specs.Judge.{messageLength, descent}
 use Rattle.protocol.specs.Check.{checkAnswer}
-use Rattle.protocol.specs.Session.{openCause, openedAt, steps}
-use Rattle.protocol.specs.Prove.{honest, placeOf, proved, wrote, proveAnswer, proveBuffer, proveOneAnswer, proveOneBuffer}
+use Rattle.protocol.specs.Session.{openCause, sessionOn}
+use Rattle.protocol.specs.Prove.{honest, messagesOn, placeOf, proved, wrote, proveAnswer, proveBuffer, proveOneAnswer, proveOneBuffer}
 use Rattle.protocol.specs.Accept.{FitsCircuit, wholeAccepts, sessionAccepts}
 
 -- acceptance of a coin list, for a circuit, an input, an output and a rule
@@ -34,7 +35,7 @@ Complete accepts =
 -- taken after circuit, input and output, so that it may depend on them.
 abbrev pub Sound : Acceptance → Type 0
 Sound accepts =
-    (c input : List ℕ) → listsCause c input ≡ 0 → (y : ℕ) → ¬ (y ≡ value c input) → (rule : Rule Place) → FitsCircuit c input rule
+    (c input : List ℕ) → listsCause c input ≡ 0 → (y : ℕ) → ¬ (y ≡ value c input) → (rule : Rule Place) → FitsCircuit c rule
     → passing (primeOf c) (coinCount c) (accepts c input y rule) ≤ 5 * exponentSum c * primeOf c ^ (coinCount c - 1)
 
 -- CODE ON BOTH SIDES: "Both forms of Prove write them where the buffer is long enough". The output that Prove answers is accepted with the words
@@ -46,8 +47,8 @@ ProvedAccepted =
 
 abbrev pub ProvedInTurn : Type 0
 ProvedInTurn =
-    (c input cs buffer : List ℕ) (j n : ℕ) → length cs ≡ coinCount c → proveOneAnswer c input (take j cs) buffer ≡ wrote n
-    → proveOneBuffer c input (take j cs) buffer ≡ over (getD (said (descent c input) (honest c input) (rounds c) [] cs) j []) buffer
+    (c input cs buffer : List ℕ) (j n : ℕ) → length cs ≡ coinCount c → proveOneAnswer c input (coinsTo c j cs) buffer ≡ wrote n
+    → proveOneBuffer c input (coinsTo c j cs) buffer ≡ over (getD (messagesOn c (honest c input) cs) j []) buffer
 
 -- DEMAND 3, "alike for the whole check and for a session". The definitions are those that the contracts of Prove, Check, Open and Step cite.
 pub record Demand3 : Type 0 where
@@ -62,7 +63,7 @@ pub record Demand3 : Type 0 where
 -- lucky coins
 abbrev pub Sharp : Acceptance → Type 0
 Sharp accepts =
-    (c input : List ℕ) → listsCause c input ≡ 0 → (y : ℕ) → ¬ (y ≡ value c input) → (rule : Rule Place) → FitsCircuit c input rule
+    (c input : List ℕ) → listsCause c input ≡ 0 → (y : ℕ) → ¬ (y ≡ value c input) → (rule : Rule Place) → FitsCircuit c rule
     → passing (primeOf c) (coinCount c) (accepts c input y rule) + luckless (primeOf c) (map (λ r. messageLength c r - 1) (rounds c))
     ≤ primeOf c ^ coinCount c
 
@@ -70,29 +71,29 @@ Sharp accepts =
 abbrev pub SameEnd : Type 0
 SameEnd =
     (c input : List ℕ) (y : ℕ) (cs ms : List ℕ) → openCause c input y cs ≡ 0 → length ms ≡ messageWords c
-    → endOf (steps c input cs (openedAt y) (cut (descent c input) (rounds c) ms)) ≡ checkAnswer c input y cs ms
+    → endOf (sessionOn c input y cs (cut (descent c) (rounds c) ms)) ≡ checkAnswer c input y cs ms
 
 -- "it does so exactly when the whole check accepts"
 abbrev pub SameAcceptance : Type 0
 SameAcceptance =
-    (c input : List ℕ) → listsCause c input ≡ 0 → (y : ℕ) (rule : Rule Place) → FitsCircuit c input rule
+    (c input : List ℕ) → listsCause c input ≡ 0 → (y : ℕ) (rule : Rule Place) → FitsCircuit c rule
     → (cs : List ℕ) → CoinList (primeOf c) (coinCount c) cs → sessionAccepts c input y rule cs ≡ wholeAccepts c input y rule cs
 
--- NO EARLY COIN: "no answer before the last depends on a coin not yet handed out, except the coin it gives". Answer j gives coin j: the first
--- answers, as many as the coins that two lists have in common, are the same, whatever coins follow.
+-- NO EARLY COIN: "no answer before the last depends on a coin not yet handed out, except the coin it gives". Answer j gives the coin of message
+-- j: the first answers, as many as the coins of messages that two lists have in common, are the same, whatever coins follow.
 abbrev pub NoEarlyCoin : Type 0
 NoEarlyCoin =
-    (c input : List ℕ) (y : ℕ) (ms : List (List ℕ)) (common rest rest′ : List ℕ)
-    → openCause c input y (common ++ rest) ≡ 0 → openCause c input y (common ++ rest′) ≡ 0
-    → take (length common) (steps c input (common ++ rest) (openedAt y) ms)
-    ≡ take (length common) (steps c input (common ++ rest′) (openedAt y) ms)
+    (c input : List ℕ) (y : ℕ) (ms : List (List ℕ)) (before common rest rest′ : List ℕ) → length before ≡ outputExponent c
+    → openCause c input y (before ++ (common ++ rest)) ≡ 0 → openCause c input y (before ++ (common ++ rest′)) ≡ 0
+    → take (length common) (sessionOn c input y (before ++ (common ++ rest)) ms)
+    ≡ take (length common) (sessionOn c input y (before ++ (common ++ rest′)) ms)
 
--- "The honest message after j coins depends on the first j only": message j of the honest transcript is the one that follows them
+-- "The honest message after j coins depends on the first j only": message j of the honest transcript is the one that follows the coins before it
 abbrev pub HonestByPrefix : Type 0
 HonestByPrefix =
-    (c input cs : List ℕ) (j : ℕ) → length cs ≡ coinCount c → j < coinCount c
-    → getD (said (descent c input) (honest c input) (rounds c) [] cs) j [] ≡ honest c input (placeOf c (take j cs)) (take j cs)
+    (c input cs : List ℕ) (j : ℕ) → length cs ≡ coinCount c → outputExponent c + j < coinCount c
+    → getD (messagesOn c (honest c input) cs) j [] ≡ honest c input (placeOf c (coinsTo c j cs)) (coinsTo c j cs)
 
 -- "The honest messages are a rule too"
 abbrev pub HonestFits : Type 0
-HonestFits = (c input : List ℕ) → listsCause c input ≡ 0 → FitsCircuit c input (honest c input)
+HonestFits = (c input : List ℕ) → listsCause c input ≡ 0 → FitsCircuit c (honest c input)

@@ -6,7 +6,7 @@ use Rattle.primes.specs.Prime.{isOneOf}
 use Rattle.algebra.specs.Polynomial.{valueAt, plus, minus, times}
 use Rattle.multilinear.specs.Extension.{bits, weightOfBits, sumFrom, extension}
 use Rattle.circuit.specs.Gate.{gateValue}
-use Rattle.circuit.specs.Circuit.{exponents, gatesOf, layersOf, gateCount, gateLayers, gatesAt, wordCount, inputExponent, coinCount, messageWords}
+use Rattle.circuit.specs.Circuit.{outputExponent, exponents, gatesOf, layersOf, gateCount, gateLayers, gatesAt, wordCount, inputExponent, coinCount, messageWords}
 use Rattle.circuit.specs.Legal.{allBelow, wiresGood, gateCause, gatesCause, layersCause, loadAnswer, inputCause, listsCause}
 use Rattle.circuit.specs.Values.{layersFrom, layers, valuesAt, value}
 use Rattle.sumcheck.specs.Summand.{wiring, combined, summand, cube, partialSum, linePoint}
@@ -14,6 +14,7 @@ use Rattle.sumcheck.specs.Message.{fit, sumMessage, lineMessage}
 use Rattle.walk.specs.Game.{walk}
 use Rattle.walk.specs.Rule.{said}
 use Rattle.walk.specs.Session.{endOf, step}
+use Rattle.protocol.specs.Start.{firstClaim}
 use Rattle.protocol.specs.Rounds.{roundsOf, roundsFrom}
 use Rattle.protocol.specs.Judge.{lineClaim, messageLength, compared, judge, inputAgrees, descent}
 use Rattle.protocol.specs.Check.{checkAnswer}
@@ -22,7 +23,7 @@ use Rattle.protocol.specs.Prove.{honest, transcript, proveCause, proveAnswer, p
 
 -- a circuit's parts, and its rounds
 unfoldable pub parts : Unit {0}
-unfolding exponents gatesOf layersOf gateCount gateLayers gatesAt wordCount inputExponent coinCount messageWords roundsOf roundsFrom sum
+unfolding outputExponent exponents gatesOf layersOf gateCount gateLayers gatesAt wordCount inputExponent coinCount messageWords roundsOf roundsFrom sum
 parts = tt
 
 -- the refusals 1 to 9
@@ -37,7 +38,7 @@ extending = tt
 
 -- Check
 unfoldable pub checking : Unit {0}
-unfolding legality extending valueAt lineClaim messageLength compared judge inputAgrees descent walk checkAnswer flatten
+unfolding legality extending valueAt lineClaim messageLength compared judge inputAgrees descent firstClaim walk checkAnswer flatten
 checking = tt
 
 -- Open and Step

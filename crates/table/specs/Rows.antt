@@ -8,7 +8,7 @@ use Rattle.lists.specs.Count.{range}
 use Rattle.refusal.specs.Order.{first}
 use Rattle.walk.specs.Session.{endOf}
 use Rattle.protocol.specs.Check.{checkAnswer}
-use Rattle.protocol.specs.Session.{openCause, openedAt, steps}
+use Rattle.protocol.specs.Session.{openCause, sessionOn}
 
 -- what is given, and the answer: 0 accepted, else the refusal's number
 pub record Row : Type 0 where
@@ -121,7 +121,7 @@ wholeAnswer r = checkAnswer (r .circuit) (r .input) (r .output) (r .coins) (flat
 unfoldable pub sessionAnswer : Row → ℕ
 sessionAnswer r =
     first (openCause (r .circuit) (r .input) (r .output) (r .coins))
-    (endOf (steps (r .circuit) (r .input) (r .coins) (openedAt (r .output)) (r .messages)))
+    (endOf (sessionOn (r .circuit) (r .input) (r .output) (r .coins) (r .messages)))
 
 abbrev pub Holds : Row → Type 0
 Holds r = (wholeAnswer r ≡ r .answer) × (sessionAnswer r ≡ r .answer)

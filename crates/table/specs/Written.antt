@@ -6,10 +6,7 @@ use mathlib.Core.Path.{_≡_}
 use mathlib.Core.List.{List, [], _∷_, _++_}
 use Rattle.lists.specs.Each.{All}
 use Rattle.circuit.specs.Values.{value}
-use Rattle.walk.specs.Rule.{said}
-use Rattle.protocol.specs.Rounds.{rounds}
-use Rattle.protocol.specs.Judge.{descent}
-use Rattle.protocol.specs.Prove.{honest, Proof, proved, refused, proveAnswer, proveBuffer, OneMessage, wrote, proveOneAnswer, proveOneBuffer}
+use Rattle.protocol.specs.Prove.{honest, messagesOn, Proof, proved, refused, proveAnswer, proveBuffer, OneMessage, wrote, proveOneAnswer, proveOneBuffer}
 use Rattle.table.specs.Rows.{Row, one, two, three, product, square, empty, c1, c9Accepted, c10, everyCoin}
 
 -- THE HONEST ROWS OF THE TABLE: their output is the circuit's value, and their messages are the honest ones
@@ -20,7 +17,7 @@ honestRows = (c1 ∷ []) ++ everyCoin c9Accepted ++ everyCoin c10
 abbrev pub IsHonest : Row → Type 0
 IsHonest r =
     (value (r .circuit) (r .input) ≡ r .output)
-    × (said (descent (r .circuit) (r .input)) (honest (r .circuit) (r .input)) (rounds (r .circuit)) [] (r .coins) ≡ r .messages)
+    × (messagesOn (r .circuit) (honest (r .circuit) (r .input)) (r .coins) ≡ r .messages)
 
 abbrev pub AllHonest : Type 0
 AllHonest = All IsHonest honestRows

@@ -11,16 +11,20 @@ use lib.Seq.{take-suc, take-all, drop-cons, drop-drop}
 use Rattle.lists.specs.Count.{sum}
 use Rattle.lists.proofs.Count.{sum-nil, sum-cons}
 use Rattle.refusal.specs.Order.{first}
-use Rattle.walk.specs.Game.{Game, finalCause, walk}
+use Rattle.walk.specs.Game.{Game, Comparison, finalCause, walk}
 
-module _ {R : Type 0} (g : Game R) (rounds : List R) (y : ℕ) (ms cs : List ℕ) where
+-- so many coins come before any message
+module _ {R : Type 0} (g : Game R) (final : Comparison) (rounds : List R) (first-coins y : ℕ) (ms cs : List ℕ) where
+  abbrev whole : ℕ
+  whole = walk g final rounds (take first-coins cs) y ms (drop first-coins cs)
+
   -- these rounds are left, after n coins and `at` message words
   pub record Left (rest : List R) (n at claim : ℕ) : Type 0 where
     pub coins : length cs ≡ n + length rest
     pub words : length ms ≡ at + sum (map (g .len) rest)
-    pub same : walk g rest (take n cs) claim (drop at ms) (drop n cs) ≡ walk g rounds [] y ms cs
+    pub same : walk g final rest (take n cs) claim (drop at ms) (drop n cs) ≡ whole
 
-  pub left-all : length cs ≡ length rounds → length ms ≡ sum (map (g .len) rounds) → Left rounds 0 0 y
+  pub left-all : length cs ≡ first-coins + length rounds → length ms ≡ sum (map (g .len) rounds) → Left rounds first-coins 0 y
   left-all ec em = record { coins = omega arith; words = omega arith; same = refl }
 
   module _ (r : R) (rest : List R) (n at claim : ℕ) (h : Left (r ∷ rest) n at claim) where
@@ -34,16 +38,16 @@ module _ {R : Type 0} (g : Game R) (rounds : List R) (y : ℕ) (ms cs : List ℕ
     message = take (g .len r) (drop at ms)
 
     abbrev later : ℕ
-    later = walk g rest (take (n + 1) cs) (g .next message (getD cs n 0)) (drop (at + g .len r) ms) (drop (n + 1) cs)
+    later = walk g final rest (take (n + 1) cs) (g .next message (getD cs n 0)) (drop (at + g .len r) ms) (drop (n + 1) cs)
 
-    one-round : walk g (r ∷ rest) (take n cs) claim (drop at ms) (drop n cs)
+    one-round : walk g final (r ∷ rest) (take n cs) claim (drop at ms) (drop n cs)
         ≡ first (g .judge r (take n cs) claim message) later
     unfolding walk
     one-round =
         let past : take n cs ++ (getD cs n 0 ∷ []) ≡ take (n + 1) cs = sym (take-suc cs n 0 left-coin) ∙ ap (λ (i : ℕ). take i cs) (sym (add-one n)) in
         let back : drop (g .len r) (drop at ms) ≡ drop (at + g .len r) ms = drop-drop (g .len r) at ms in
-        ap (λ (l : List ℕ). walk g (r ∷ rest) (take n cs) claim (drop at ms) l) (drop-cons cs n 0 left-coin ∙ ap (λ (i : ℕ). getD cs n 0 ∷ drop i cs) (sym (add-one n)))
-        ∙ ap₂ (λ (a b : List ℕ). first (g .judge r (take n cs) claim message) (walk g rest a (g .next message (getD cs n 0)) b (drop (n + 1) cs))) past back
+        ap (λ (l : List ℕ). walk g final (r ∷ rest) (take n cs) claim (drop at ms) l) (drop-cons cs n 0 left-coin ∙ ap (λ (i : ℕ). getD cs n 0 ∷ drop i cs) (sym (add-one n)))
+        ∙ ap₂ (λ (a b : List ℕ). first (g .judge r (take n cs) claim message) (walk g final rest a (g .next message (getD cs n 0)) b (drop (n + 1) cs))) past back
 
     pub left-next : g .judge r (take n cs) claim message ≡ 0 → Left rest (n + 1) (at + g .len r) (g .next message (getD cs n 0))
     left-next e = record {
@@ -52,11 +56,11 @@ module _ {R : Type 0} (g : Game R) (rounds : List R) (y : ℕ) (ms cs : List ℕ
       same = sym (one-round ∙ ap (λ (i : ℕ). first i later) e) ∙ h .same;
     }
 
-    pub left-refused : (cause : ℕ) → g .judge r (take n cs) claim message ≡ suc cause → suc cause ≡ walk g rounds [] y ms cs
+    pub left-refused : (cause : ℕ) → g .judge r (take n cs) claim message ≡ suc cause → suc cause ≡ whole
     left-refused cause e = sym (one-round ∙ ap (λ (i : ℕ). first i later) e) ∙ h .same
 
-  pub left-none : (n at claim : ℕ) → Left [] n at claim → finalCause (g .final cs claim) ≡ walk g rounds [] y ms cs
+  pub left-none : (n at claim : ℕ) → Left [] n at claim → finalCause (final cs claim) ≡ whole
   unfolding walk
   left-none n at claim h =
       let all : length cs ≤ n = omega (arith, h .coins) in
-      ap (λ (l : List ℕ). finalCause (g .final l claim)) (sym (take-all n cs all)) ∙ h .same
+      ap (λ (l : List ℕ). finalCause (final l claim)) (sym (take-all n cs all)) ∙ h .same

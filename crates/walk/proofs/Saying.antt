@@ -7,20 +7,20 @@ use native.Mathlib.Numerals.{add-one}
 use native.Mathlib.Omega.{arith}
 use lib.ListN.{length, length-append, length-drop, take, drop, getD}
 use lib.Seq.{take-suc, drop-cons, drop-drop, drop-append-seam, take-append-seam, take-add}
-use Rattle.walk.specs.Game.{Game}
 use Rattle.walk.specs.Rule.{Rule, said}
 
-module _ {R : Type 0} (g : Game R) (rule : Rule R) (rounds : List R) (cs : List ℕ) where
+-- so many coins come before any message
+module _ {R : Type 0} (rule : Rule R) (rounds : List R) (first-coins : ℕ) (cs : List ℕ) where
   abbrev whole : List ℕ
-  whole = flatten (said g rule rounds [] cs)
+  whole = flatten (said rule rounds (take first-coins cs) (drop first-coins cs))
 
   -- these rounds are left, after n coins and `at` words
   pub record Saying (rest : List R) (n at : ℕ) : Type 0 where
     pub coins : length cs ≡ n + length rest
     pub inside : at ≤ length whole
-    pub left : drop at whole ≡ flatten (said g rule rest (take n cs) (drop n cs))
+    pub left : drop at whole ≡ flatten (said rule rest (take n cs) (drop n cs))
 
-  pub saying-all : length cs ≡ length rounds → Saying rounds 0 0
+  pub saying-all : length cs ≡ first-coins + length rounds → Saying rounds first-coins 0
   saying-all e = record { coins = omega arith; inside = omega arith; left = refl }
 
   pub saying-none : (n at : ℕ) → Saying [] n at → length whole ≡ at
@@ -35,7 +35,7 @@ module _ {R : Type 0} (g : Game R) (rule : Rule R) (rounds : List R) (cs : List 
     message = rule r (take n cs)
 
     abbrev later : List ℕ
-    later = flatten (said g rule rest (take (n + 1) cs) (drop (n + 1) cs))
+    later = flatten (said rule rest (take (n + 1) cs) (drop (n + 1) cs))
 
     one-round : drop at whole ≡ message ++ later
     unfolding said flatten
@@ -43,8 +43,8 @@ module _ {R : Type 0} (g : Game R) (rule : Rule R) (rounds : List R) (cs : List 
         let more : n < length cs = omega (arith, h .coins) in
         let past : take n cs ++ (getD cs n 0 ∷ []) ≡ take (n + 1) cs = sym (take-suc cs n 0 more) ∙ ap (λ (i : ℕ). take i cs) (sym (add-one n)) in
         h .left
-        ∙ ap (λ (l : List ℕ). flatten (said g rule (r ∷ rest) (take n cs) l)) (drop-cons cs n 0 more ∙ ap (λ (i : ℕ). getD cs n 0 ∷ drop i cs) (sym (add-one n)))
-        ∙ ap (λ (l : List ℕ). message ++ flatten (said g rule rest l (drop (n + 1) cs))) past
+        ∙ ap (λ (l : List ℕ). flatten (said rule (r ∷ rest) (take n cs) l)) (drop-cons cs n 0 more ∙ ap (λ (i : ℕ). getD cs n 0 ∷ drop i cs) (sym (add-one n)))
+        ∙ ap (λ (l : List ℕ). message ++ flatten (said rule rest l (drop (n + 1) cs))) past
 
     pub saying-room : at + length message ≤ length whole
     saying-room =

@@ -12,7 +12,7 @@ use lib.Seq.{take-at, drop-at, getD-at, length-take-le}
 use Rattle.lists.specs.Count.{sum}
 use Rattle.lists.proofs.Count.{sum-nil, sum-cons}
 use Rattle.refusal.specs.Order.{first}
-use Rattle.walk.specs.Game.{Game, passes, walk}
+use Rattle.walk.specs.Game.{Game, Comparison, passes, walk}
 use Rattle.walk.specs.Rule.{Rule, said, Fits, play, byRule}
 use Rattle.walk.specs.Session.{Answer, refused, Record, ended, isAccepted, anyAccepted, endOf, stepFinal, stepLast, stepJudge, stepOpen, step, calls, at, Follows, Chain, cut}
 use Rattle.walk.proofs.Play.{walk-said}
@@ -29,92 +29,7 @@ module _ {R : Type 0} (g : Game R) where
   abbrev pub wordsOf : List R → ℕ
   wordsOf rs = sum (map (g .len) rs)
 
-  -- an ended record answers 19 for good
-  pub closed-calls : (cs : List ℕ) (s : Record R) (ms : List (List ℕ)) → s .opened ≡ false → anyAccepted (calls g cs s ms) ≡ false
-  unfolding calls anyAccepted step
-  closed-calls cs s [] e = refl
-  closed-calls cs s (m ∷ ms) e =
-      let past : List ℕ = take (g .before (s .round)) cs in
-      let c : ℕ = getD cs (g .before (s .round)) 0 in
-      subst (λ (b : Bool). (isAccepted (stepOpen g b past c s m .0) || anyAccepted (calls g cs (stepOpen g b past c s m .1) ms)) ≡ false) (sym e)
-      (closed-calls cs s ms e)
-
-  -- a step of an open session
-  pub step-at : (past : List ℕ) (c : ℕ) (rest : List ℕ) (r : R) (claim : ℕ) (m : List ℕ) → g .before r ≡ length past
-      → step g (past ++ c ∷ rest) (at g r claim) m ≡ stepJudge g (g .judge r past claim m) past c (at g r claim) m
-  unfolding step
-  step-at past c rest r claim m e =
-      rw (take-at past (c ∷ rest) (g .before r) (sym e), getD-at past c rest 0 (g .before r) (sym e))
-
-  pub one-end : (k : ℕ) (past : List ℕ) (c : ℕ) (r : R) (claim : ℕ) (m : List ℕ) → g .last r ≡ true
-      → endOf (stepJudge g k past c (at g r claim) m .0 ∷ []) ≡ first k (cond (g .final (past ++ (c ∷ [])) (g .next m c)) 0 18)
-  unfolding endOf
-  one-end (suc k) past c r claim m e = refl
-  one-end zero past c r claim m e = rw e (go (g .final (past ++ (c ∷ [])) (g .next m c)))
-    where
-      go : (b : Bool) → endOf (stepFinal g b (at g r claim) .0 ∷ []) ≡ cond b 0 18
-      go true = refl
-      go false = refl
-
-  more-end : (k : ℕ) (past : List ℕ) (c : ℕ) (r r′ : R) (claim : ℕ) (m : List ℕ) (all : List ℕ) (ms : List (List ℕ)) (w : ℕ) → g .last r ≡ false → g .after r ≡ r′
-      → endOf (calls g all (at g r′ (g .next m c)) ms) ≡ w
-      → endOf (stepJudge g k past c (at g r claim) m .0 ∷ calls g all (stepJudge g k past c (at g r claim) m .1) ms) ≡ first k w
-  unfolding endOf
-  more-end (suc k) past c r r′ claim m all ms w e a ih = refl
-  more-end zero past c r r′ claim m all ms w e a ih = rw (e, a) ih
-
-  pub session-walk : (r : R) (rs : List R) (past : List ℕ) (claim : ℕ) (ms : List (List ℕ)) (cs : List ℕ)
-      → Chain g (r ∷ rs) (length past) → Sized (r ∷ rs) ms → length cs ≡ length (r ∷ rs)
-      → endOf (calls g (past ++ cs) (at g r claim) ms) ≡ walk g (r ∷ rs) past claim (flatten ms) cs
-  unfolding endOf calls walk flatten Chain Sized
-  session-walk r rs past claim [] cs ch sz n = absurd sz
-  session-walk r rs past claim (m ∷ ms) [] ch sz n = absurd (suc-ne-zero _ (sym n))
-  session-walk r [] past claim (m ∷ []) (c ∷ []) ch sz n =
-      rw (step-at past c [] r claim m (ch .0), take-at m [] (g .len r) (sz .0)) (one-end (g .judge r past claim m) past c r claim m (ch .1))
-  session-walk r [] past claim (m ∷ []) (c ∷ c′ ∷ cs) ch sz n = absurd (suc-ne-zero _ (suc-inj n))
-  session-walk r [] past claim (m ∷ m′ ∷ ms) (c ∷ cs) ch sz n = absurd (sz .1)
-  session-walk r (r′ ∷ rs) past claim (m ∷ ms) (c ∷ cs) ch sz n =
-      let past′ : List ℕ = past ++ (c ∷ []) in
-      let ih : endOf (calls g (past′ ++ cs) (at g r′ (g .next m c)) ms) ≡ walk g (r′ ∷ rs) past′ (g .next m c) (flatten ms) cs =
-      session-walk r′ rs past′ (g .next m c) ms cs
-      (subst (Chain g (r′ ∷ rs)) (sym (length-append past (c ∷ []) ∙ add-one (length past))) (ch .2)) (sz .1) (suc-inj n) in
-      rw (step-at past c cs r claim m (ch .0), take-at m (flatten ms) (g .len r) (sz .0), drop-at m (flatten ms) (g .len r) (sz .0))
-      (more-end (g .judge r past claim m) past c r r′ claim m (past ++ c ∷ cs) ms _ (ch .1 .0) (ch .1 .1) (rw append-assoc at ih))
-
-  -- the session accepts exactly when it ends with 0
-  step-ends : (b : Bool) (past : List ℕ) (c : ℕ) (s : Record R) (m : List ℕ) (all : List ℕ) (ms : List (List ℕ)) → s .opened ≡ b
-      → anyAccepted (calls g all (stepOpen g b past c s m .1) ms) ≡ passes (endOf (calls g all (stepOpen g b past c s m .1) ms))
-      → anyAccepted (stepOpen g b past c s m .0 ∷ calls g all (stepOpen g b past c s m .1) ms)
-      ≡ passes (endOf (stepOpen g b past c s m .0 ∷ calls g all (stepOpen g b past c s m .1) ms))
-  unfolding anyAccepted endOf
-  step-ends false past c s m all ms o ih = closed-calls all s ms o
-  step-ends true past c s m all ms o ih = go-judge (g .judge (s .round) past (s .claim) m) ih
-    where
-      Good : Answer × Record R → Type 0
-      Good a = anyAccepted (calls g all (a .1) ms) ≡ passes (endOf (calls g all (a .1) ms)) → anyAccepted (a .0 ∷ calls g all (a .1) ms) ≡ passes (endOf (a .0 ∷ calls g all (a .1) ms))
-
-      shut : anyAccepted (calls g all (ended s) ms) ≡ false
-      shut = closed-calls all (ended s) ms refl
-
-      go-final : (b : Bool) → Good (stepFinal g b s)
-      go-final true h = refl
-      go-final false h = shut
-
-      go-last : (b : Bool) → Good (stepLast g b past c s m)
-      go-last true h = go-final (g .final (past ++ (c ∷ [])) (g .next m c)) h
-      go-last false h = h
-
-      go-judge : (k : ℕ) → Good (stepJudge g k past c s m)
-      go-judge zero h = go-last (g .last (s .round)) h
-      go-judge (suc k) h = shut
-
-  pub accepts-end : (all : List ℕ) (s : Record R) (ms : List (List ℕ)) → anyAccepted (calls g all s ms) ≡ passes (endOf (calls g all s ms))
-  unfolding calls step anyAccepted endOf
-  accepts-end all s [] = refl
-  accepts-end all s (m ∷ ms) = step-ends (s .opened) _ _ s m all ms refl (accepts-end all (step g all s m .1) ms)
-
-  -- the session of a rule
-  pub said-sized : (rule : Rule R) (rs : List R) (past cs : List ℕ) → Fits g rule rs past cs → length cs ≡ length rs → Sized rs (said g rule rs past cs)
+  pub said-sized : (rule : Rule R) (rs : List R) (past cs : List ℕ) → Fits g rule rs past cs → length cs ≡ length rs → Sized rs (said rule rs past cs)
   unfolding Fits Sized said
   said-sized rule [] past [] f n = tt
   said-sized rule [] past (c ∷ cs) f n = absurd (suc-ne-zero _ n)
@@ -128,47 +43,6 @@ module _ {R : Type 0} (g : Game R) where
   sized-words (r ∷ rs) [] s = absurd s
   sized-words (r ∷ rs) (m ∷ ms) s =
       length-append m (flatten ms) ∙ omega (arith, s .0, sized-words rs ms (s .1), sum-cons (g .len r) (map (g .len) rs))
-
-  pub session-play : (rule : Rule R) (r : R) (rs : List R) (past : List ℕ) (claim : ℕ) (cs : List ℕ)
-      → Chain g (r ∷ rs) (length past) → Fits g rule (r ∷ rs) past cs → length cs ≡ length (r ∷ rs)
-      → anyAccepted (calls g (past ++ cs) (at g r claim) (said g rule (r ∷ rs) past cs)) ≡ passes (play g (byRule rule) (r ∷ rs) past claim cs)
-  session-play rule r rs past claim cs ch f n =
-      accepts-end (past ++ cs) (at g r claim) (said g rule (r ∷ rs) past cs)
-      ∙ ap passes (session-walk r rs past claim (said g rule (r ∷ rs) past cs) cs ch (said-sized rule (r ∷ rs) past cs f n) n
-      ∙ walk-said g rule (r ∷ rs) past claim cs f)
-
-  -- NO ANSWER LOOKS AHEAD: answers 0 to i depend on the coins 0 to i alone
-  closed-same : (all all′ : List ℕ) (s : Record R) (ms : List (List ℕ)) → calls g all (ended s) ms ≡ calls g all′ (ended s) ms
-  unfolding calls step
-  closed-same all all′ s [] = refl
-  closed-same all all′ s (m ∷ ms) = ap (λ (l : List Answer). refused 19 ∷ l) (closed-same all all′ s ms)
-
-  same-rest : (n : ℕ) (all all′ : List ℕ) (ms : List (List ℕ)) (k : ℕ) (past : List ℕ) (c : ℕ) (r : R) (rs : List R) (claim : ℕ) (m : List ℕ) → Follows g r rs
-      → ((r′ : R) (rs′ : List R) → rs ≡ r′ ∷ rs′ → take n (calls g all (at g r′ (g .next m c)) ms) ≡ take n (calls g all′ (at g r′ (g .next m c)) ms))
-      → take n (calls g all (stepJudge g k past c (at g r claim) m .1) ms) ≡ take n (calls g all′ (stepJudge g k past c (at g r claim) m .1) ms)
-  same-rest n all all′ ms (suc k) past c r rs claim m f ih = ap (take n) (closed-same all all′ (at g r claim) ms)
-  same-rest n all all′ ms zero past c r [] claim m f ih = rw f (go (g .final (past ++ (c ∷ [])) (g .next m c)))
-    where
-      go : (b : Bool) → take n (calls g all (stepFinal g b (at g r claim) .1) ms) ≡ take n (calls g all′ (stepFinal g b (at g r claim) .1) ms)
-      go true = ap (take n) (closed-same all all′ (at g r claim) ms)
-      go false = ap (take n) (closed-same all all′ (at g r claim) ms)
-  same-rest n all all′ ms zero past c r (r′ ∷ rs) claim m f ih = rw (f .0, f .1) (ih r′ rs refl)
-
-  pub no-lookahead : (ms : List (List ℕ)) (r : R) (rs : List R) (past : List ℕ) (claim : ℕ) (common rest rest′ : List ℕ)
-      → Chain g (r ∷ rs) (length past)
-      → take (length common) (calls g (past ++ (common ++ rest)) (at g r claim) ms) ≡ take (length common) (calls g (past ++ (common ++ rest′)) (at g r claim) ms)
-  unfolding calls Chain
-  no-lookahead [] r rs past claim common rest rest′ ch = refl
-  no-lookahead (m ∷ ms) r rs past claim [] rest rest′ ch = refl
-  no-lookahead (m ∷ ms) r rs past claim (c ∷ common) rest rest′ ch =
-      let past′ : List ℕ = past ++ (c ∷ []) in
-      rw (step-at past c (common ++ rest) r claim m (ch .0), step-at past c (common ++ rest′) r claim m (ch .0))
-      (ap (λ (l : List Answer). stepJudge g (g .judge r past claim m) past c (at g r claim) m .0 ∷ l)
-      (same-rest (length common) (past ++ c ∷ (common ++ rest)) (past ++ c ∷ (common ++ rest′)) ms (g .judge r past claim m) past c r rs claim m (ch .1)
-      (λ r′ rs′ e. subst₂ (λ (x y : List ℕ). take (length common) (calls g x (at g r′ (g .next m c)) ms) ≡ take (length common) (calls g y (at g r′ (g .next m c)) ms))
-      (append-assoc past (c ∷ []) (common ++ rest)) (append-assoc past (c ∷ []) (common ++ rest′))
-      (no-lookahead ms r′ rs′ past′ (g .next m c) common rest rest′
-      (subst (λ (l : List R). Chain g l (length past′)) e (subst (Chain g rs) (sym (length-append past (c ∷ []) ∙ add-one (length past))) (ch .2)))))))
 
   pub cut-sized : (rs : List R) (ms : List ℕ) → length ms ≡ wordsOf rs → Sized rs (cut g rs ms)
   unfolding cut Sized
@@ -186,9 +60,137 @@ module _ {R : Type 0} (g : Game R) where
       ap (λ (l : List ℕ). take (g .len r) ms ++ l) (cut-joined rs (drop (g .len r) ms) (rw length-drop (omega arith)))
       ∙ take-append-drop (g .len r) ms
 
+module _ {R : Type 0} (g : Game R) (final : Comparison) where
+  -- an ended record answers 19 for good
+  pub closed-calls : (cs : List ℕ) (s : Record R) (ms : List (List ℕ)) → s .opened ≡ false → anyAccepted (calls g final cs s ms) ≡ false
+  unfolding calls anyAccepted step
+  closed-calls cs s [] e = refl
+  closed-calls cs s (m ∷ ms) e =
+      let past : List ℕ = take (g .before (s .round)) cs in
+      let c : ℕ = getD cs (g .before (s .round)) 0 in
+      subst (λ (b : Bool). (isAccepted (stepOpen g final b past c s m .0) || anyAccepted (calls g final cs (stepOpen g final b past c s m .1) ms)) ≡ false) (sym e)
+      (closed-calls cs s ms e)
+
+  -- a step of an open session
+  pub step-at : (past : List ℕ) (c : ℕ) (rest : List ℕ) (r : R) (claim : ℕ) (m : List ℕ) → g .before r ≡ length past
+      → step g final (past ++ c ∷ rest) (at r claim) m ≡ stepJudge g final (g .judge r past claim m) past c (at r claim) m
+  unfolding step
+  step-at past c rest r claim m e =
+      rw (take-at past (c ∷ rest) (g .before r) (sym e), getD-at past c rest 0 (g .before r) (sym e))
+
+  pub one-end : (k : ℕ) (past : List ℕ) (c : ℕ) (r : R) (claim : ℕ) (m : List ℕ) → g .last r ≡ true
+      → endOf (stepJudge g final k past c (at r claim) m .0 ∷ []) ≡ first k (cond (final (past ++ (c ∷ [])) (g .next m c)) 0 18)
+  unfolding endOf
+  one-end (suc k) past c r claim m e = refl
+  one-end zero past c r claim m e = rw e (go (final (past ++ (c ∷ [])) (g .next m c)))
+    where
+      go : (b : Bool) → endOf (stepFinal b (at r claim) .0 ∷ []) ≡ cond b 0 18
+      go true = refl
+      go false = refl
+
+  more-end : (k : ℕ) (past : List ℕ) (c : ℕ) (r r′ : R) (claim : ℕ) (m : List ℕ) (all : List ℕ) (ms : List (List ℕ)) (w : ℕ) → g .last r ≡ false → g .after r ≡ r′
+      → endOf (calls g final all (at r′ (g .next m c)) ms) ≡ w
+      → endOf (stepJudge g final k past c (at r claim) m .0 ∷ calls g final all (stepJudge g final k past c (at r claim) m .1) ms) ≡ first k w
+  unfolding endOf
+  more-end (suc k) past c r r′ claim m all ms w e a ih = refl
+  more-end zero past c r r′ claim m all ms w e a ih = rw (e, a) ih
+
+  pub session-walk : (r : R) (rs : List R) (past : List ℕ) (claim : ℕ) (ms : List (List ℕ)) (cs : List ℕ)
+      → Chain g (r ∷ rs) (length past) → Sized g (r ∷ rs) ms → length cs ≡ length (r ∷ rs)
+      → endOf (calls g final (past ++ cs) (at r claim) ms) ≡ walk g final (r ∷ rs) past claim (flatten ms) cs
+  unfolding endOf calls walk flatten Chain Sized
+  session-walk r rs past claim [] cs ch sz n = absurd sz
+  session-walk r rs past claim (m ∷ ms) [] ch sz n = absurd (suc-ne-zero _ (sym n))
+  session-walk r [] past claim (m ∷ []) (c ∷ []) ch sz n =
+      rw (step-at past c [] r claim m (ch .0), take-at m [] (g .len r) (sz .0)) (one-end (g .judge r past claim m) past c r claim m (ch .1))
+  session-walk r [] past claim (m ∷ []) (c ∷ c′ ∷ cs) ch sz n = absurd (suc-ne-zero _ (suc-inj n))
+  session-walk r [] past claim (m ∷ m′ ∷ ms) (c ∷ cs) ch sz n = absurd (sz .1)
+  session-walk r (r′ ∷ rs) past claim (m ∷ ms) (c ∷ cs) ch sz n =
+      let past′ : List ℕ = past ++ (c ∷ []) in
+      let ih : endOf (calls g final (past′ ++ cs) (at r′ (g .next m c)) ms) ≡ walk g final (r′ ∷ rs) past′ (g .next m c) (flatten ms) cs =
+      session-walk r′ rs past′ (g .next m c) ms cs
+      (subst (Chain g (r′ ∷ rs)) (sym (length-append past (c ∷ []) ∙ add-one (length past))) (ch .2)) (sz .1) (suc-inj n) in
+      rw (step-at past c cs r claim m (ch .0), take-at m (flatten ms) (g .len r) (sz .0), drop-at m (flatten ms) (g .len r) (sz .0))
+      (more-end (g .judge r past claim m) past c r r′ claim m (past ++ c ∷ cs) ms _ (ch .1 .0) (ch .1 .1) (rw append-assoc at ih))
+
+  -- the session accepts exactly when it ends with 0
+  step-ends : (b : Bool) (past : List ℕ) (c : ℕ) (s : Record R) (m : List ℕ) (all : List ℕ) (ms : List (List ℕ)) → s .opened ≡ b
+      → anyAccepted (calls g final all (stepOpen g final b past c s m .1) ms) ≡ passes (endOf (calls g final all (stepOpen g final b past c s m .1) ms))
+      → anyAccepted (stepOpen g final b past c s m .0 ∷ calls g final all (stepOpen g final b past c s m .1) ms)
+      ≡ passes (endOf (stepOpen g final b past c s m .0 ∷ calls g final all (stepOpen g final b past c s m .1) ms))
+  unfolding anyAccepted endOf
+  step-ends false past c s m all ms o ih = closed-calls all s ms o
+  step-ends true past c s m all ms o ih = go-judge (g .judge (s .round) past (s .claim) m) ih
+    where
+      Good : Answer × Record R → Type 0
+      Good a = anyAccepted (calls g final all (a .1) ms) ≡ passes (endOf (calls g final all (a .1) ms)) → anyAccepted (a .0 ∷ calls g final all (a .1) ms) ≡ passes (endOf (a .0 ∷ calls g final all (a .1) ms))
+
+      shut : anyAccepted (calls g final all (ended s) ms) ≡ false
+      shut = closed-calls all (ended s) ms refl
+
+      go-final : (b : Bool) → Good (stepFinal b s)
+      go-final true h = refl
+      go-final false h = shut
+
+      go-last : (b : Bool) → Good (stepLast g final b past c s m)
+      go-last true h = go-final (final (past ++ (c ∷ [])) (g .next m c)) h
+      go-last false h = h
+
+      go-judge : (k : ℕ) → Good (stepJudge g final k past c s m)
+      go-judge zero h = go-last (g .last (s .round)) h
+      go-judge (suc k) h = shut
+
+  pub accepts-end : (all : List ℕ) (s : Record R) (ms : List (List ℕ)) → anyAccepted (calls g final all s ms) ≡ passes (endOf (calls g final all s ms))
+  unfolding calls step anyAccepted endOf
+  accepts-end all s [] = refl
+  accepts-end all s (m ∷ ms) = step-ends (s .opened) _ _ s m all ms refl (accepts-end all (step g final all s m .1) ms)
+
+  -- the session of a rule
+  pub session-play : (rule : Rule R) (r : R) (rs : List R) (past : List ℕ) (claim : ℕ) (cs : List ℕ)
+      → Chain g (r ∷ rs) (length past) → Fits g rule (r ∷ rs) past cs → length cs ≡ length (r ∷ rs)
+      → anyAccepted (calls g final (past ++ cs) (at r claim) (said rule (r ∷ rs) past cs)) ≡ passes (play g final (byRule rule) (r ∷ rs) past claim cs)
+  session-play rule r rs past claim cs ch f n =
+      accepts-end (past ++ cs) (at r claim) (said rule (r ∷ rs) past cs)
+      ∙ ap passes (session-walk r rs past claim (said rule (r ∷ rs) past cs) cs ch (said-sized g rule (r ∷ rs) past cs f n) n
+      ∙ walk-said g final rule (r ∷ rs) past claim cs f)
+
+  -- NO ANSWER LOOKS AHEAD: answers 0 to i depend on the coins 0 to i alone
+  closed-same : (all all′ : List ℕ) (s : Record R) (ms : List (List ℕ)) → calls g final all (ended s) ms ≡ calls g final all′ (ended s) ms
+  unfolding calls step
+  closed-same all all′ s [] = refl
+  closed-same all all′ s (m ∷ ms) = ap (λ (l : List Answer). refused 19 ∷ l) (closed-same all all′ s ms)
+
+  same-rest : (n : ℕ) (all all′ : List ℕ) (ms : List (List ℕ)) (k : ℕ) (past : List ℕ) (c : ℕ) (r : R) (rs : List R) (claim : ℕ) (m : List ℕ) → Follows g r rs
+      → ((r′ : R) (rs′ : List R) → rs ≡ r′ ∷ rs′ → take n (calls g final all (at r′ (g .next m c)) ms) ≡ take n (calls g final all′ (at r′ (g .next m c)) ms))
+      → take n (calls g final all (stepJudge g final k past c (at r claim) m .1) ms) ≡ take n (calls g final all′ (stepJudge g final k past c (at r claim) m .1) ms)
+  same-rest n all all′ ms (suc k) past c r rs claim m f ih = ap (take n) (closed-same all all′ (at r claim) ms)
+  same-rest n all all′ ms zero past c r [] claim m f ih = rw f (go (final (past ++ (c ∷ [])) (g .next m c)))
+    where
+      go : (b : Bool) → take n (calls g final all (stepFinal b (at r claim) .1) ms) ≡ take n (calls g final all′ (stepFinal b (at r claim) .1) ms)
+      go true = ap (take n) (closed-same all all′ (at r claim) ms)
+      go false = ap (take n) (closed-same all all′ (at r claim) ms)
+  same-rest n all all′ ms zero past c r (r′ ∷ rs) claim m f ih = rw (f .0, f .1) (ih r′ rs refl)
+
+  pub no-lookahead : (ms : List (List ℕ)) (r : R) (rs : List R) (past : List ℕ) (claim : ℕ) (common rest rest′ : List ℕ)
+      → Chain g (r ∷ rs) (length past)
+      → take (length common) (calls g final (past ++ (common ++ rest)) (at r claim) ms) ≡ take (length common) (calls g final (past ++ (common ++ rest′)) (at r claim) ms)
+  unfolding calls Chain
+  no-lookahead [] r rs past claim common rest rest′ ch = refl
+  no-lookahead (m ∷ ms) r rs past claim [] rest rest′ ch = refl
+  no-lookahead (m ∷ ms) r rs past claim (c ∷ common) rest rest′ ch =
+      let past′ : List ℕ = past ++ (c ∷ []) in
+      rw (step-at past c (common ++ rest) r claim m (ch .0), step-at past c (common ++ rest′) r claim m (ch .0))
+      (ap (λ (l : List Answer). stepJudge g final (g .judge r past claim m) past c (at r claim) m .0 ∷ l)
+      (same-rest (length common) (past ++ c ∷ (common ++ rest)) (past ++ c ∷ (common ++ rest′)) ms (g .judge r past claim m) past c r rs claim m (ch .1)
+      (λ r′ rs′ e. subst₂ (λ (x y : List ℕ). take (length common) (calls g final x (at r′ (g .next m c)) ms) ≡ take (length common) (calls g final y (at r′ (g .next m c)) ms))
+      (append-assoc past (c ∷ []) (common ++ rest)) (append-assoc past (c ∷ []) (common ++ rest′))
+      (no-lookahead ms r′ rs′ past′ (g .next m c) common rest rest′
+      (subst (λ (l : List R). Chain g l (length past′)) e (subst (Chain g rs) (sym (length-append past (c ∷ []) ∙ add-one (length past))) (ch .2)))))))
+
   -- from opening, steps on the messages of a transcript of exact length end as the whole check does
-  pub transcript-session : (r : R) (rs : List R) (claim : ℕ) (ms cs : List ℕ) → Chain g (r ∷ rs) 0 → length ms ≡ wordsOf (r ∷ rs) → length cs ≡ length (r ∷ rs)
-      → endOf (calls g cs (at g r claim) (cut g (r ∷ rs) ms)) ≡ walk g (r ∷ rs) [] claim ms cs
-  transcript-session r rs claim ms cs ch n nc =
-      session-walk r rs [] claim (cut g (r ∷ rs) ms) cs ch (cut-sized (r ∷ rs) ms n) nc
-      ∙ ap (λ (l : List ℕ). walk g (r ∷ rs) [] claim l cs) (cut-joined (r ∷ rs) ms n)
+  pub transcript-session : (r : R) (rs : List R) (past : List ℕ) (claim : ℕ) (ms cs : List ℕ) → Chain g (r ∷ rs) (length past)
+      → length ms ≡ wordsOf g (r ∷ rs) → length cs ≡ length (r ∷ rs)
+      → endOf (calls g final (past ++ cs) (at r claim) (cut g (r ∷ rs) ms)) ≡ walk g final (r ∷ rs) past claim ms cs
+  transcript-session r rs past claim ms cs ch n nc =
+      session-walk r rs past claim (cut g (r ∷ rs) ms) cs ch (cut-sized g (r ∷ rs) ms n) nc
+      ∙ ap (λ (l : List ℕ). walk g final (r ∷ rs) past claim l cs) (cut-joined g (r ∷ rs) ms n)

@@ -1,3 +1,4 @@
 pub mod Game
 pub mod Rule
+pub mod Claims
 pub mod Session

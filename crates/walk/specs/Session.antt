@@ -5,7 +5,7 @@ use mathlib.Core.Path.{_≡_}
 use mathlib.Core.Bool.{Bool, true, false, _||_}
 use mathlib.Core.List.{List, [], _∷_, _++_}
 use lib.ListN.{length, take, drop, getD}
-use Rattle.walk.specs.Game.{Game}
+use Rattle.walk.specs.Game.{Game, Comparison}
 
 -- "An answer is accepted, go on with a coin, or refused with its cause."
 pub data Answer : Type 0 where
@@ -17,6 +17,10 @@ pub record Record (R : Type 0) : Type 0 where
   pub round : R
   pub claim : ℕ
   pub opened : Bool
+
+-- an open record
+abbrev pub at : {R : Type 0} → R → ℕ → Record R
+at r claim = record { round = r; claim = claim; opened = true }
 
 -- the end: "layer, round and claim keep their last figures"
 abbrev pub ended : {R : Type 0} → Record R → Record R
@@ -39,16 +43,16 @@ endOf (accepted ∷ rest) = 0
 endOf (goOn c ∷ rest) = endOf rest
 endOf (refused cause ∷ rest) = cause
 
-module _ {R : Type 0} (g : Game R) where
-  -- ONE STEP, from the coins before the round and the round's own coin
-  abbrev pub stepFinal : Bool → Record R → Answer × Record R
-  stepFinal true s = (accepted, ended s)
-  stepFinal false s = (refused 18, ended s)
+-- ONE STEP, from the coins before the round and the round's own coin. The last comparison ends the session.
+abbrev pub stepFinal : {R : Type 0} → Bool → Record R → Answer × Record R
+stepFinal true s = (accepted, ended s)
+stepFinal false s = (refused 18, ended s)
 
+module _ {R : Type 0} (g : Game R) (final : Comparison) where
   -- "Go on sets the next round .. and the new claim." "The last coin is not handed out."
   abbrev pub stepLast : Bool → List ℕ → ℕ → Record R → List ℕ → Answer × Record R
-  stepLast false past c s m = (goOn c, record { round = g .after (s .round); claim = g .next m c; opened = true })
-  stepLast true past c s m = stepFinal (g .final (past ++ (c ∷ [])) (g .next m c)) s
+  stepLast false past c s m = (goOn c, at (g .after (s .round)) (g .next m c))
+  stepLast true past c s m = stepFinal (final (past ++ (c ∷ [])) (g .next m c)) s
 
   -- the comparison comes before the coin
   abbrev pub stepJudge : ℕ → List ℕ → ℕ → Record R → List ℕ → Answer × Record R
@@ -68,10 +72,7 @@ module _ {R : Type 0} (g : Game R) where
   calls cs s [] = []
   calls cs s (m ∷ ms) = step cs s m .0 ∷ calls cs (step cs s m .1) ms
 
-  -- an open record
-  abbrev pub at : R → ℕ → Record R
-  at r claim = record { round = r; claim = claim; opened = true }
-
+module _ {R : Type 0} (g : Game R) where
   -- rounds that follow one another, the first with j coins before it
   abbrev pub Follows : R → List R → Type 0
   Follows r [] = g .last r ≡ true
