@@ -56,7 +56,7 @@ module _ (c input before : List ℕ) where
         buffer = ap (λ (t : List ℕ). over t before) (ap (λ (m : ℕ). take m values) n ∙ v .holds) ∙ sym (simp (e, fits));
       }
 
-  pub total-values : (gates : ℕ) → gates ≡ gateCount outputExponent (exponents c) → LegalLists c input → gates + length input ≡ valueCount c
+  pub total-values : (gates : ℕ) → gates ≡ gateCount (outputExponent c) (exponents c) → LegalLists c input → gates + length input ≡ valueCount c
   unfolding valueCount
   total-values gates e legal = omega (arith, e, legal .sized)
 

@@ -52,7 +52,7 @@ module _ (values part ws : List ℕ) (at : ℕ) (size : length values ≡ maxVal
 -- layers j to D stand at their place, which begins at `at`
 pub record Filled (c input values : List ℕ) (j at : ℕ) : Type 0 where
   pub inside : j ≤ depth c
-  pub place : at + gateCount (exponentAt c j) (drop j (exponents c)) ≡ gateCount outputExponent (exponents c)
+  pub place : at + gateCount (exponentAt c j) (drop j (exponents c)) ≡ gateCount (outputExponent c) (exponents c)
   pub size : length values ≡ maxValues
   pub holds : take (valueCount c - at) (drop at values)
       ≡ flatten (layersFrom (words (primeOf c)) (layersOf (exponentAt c j) (drop j (exponents c)) (drop (gatesStart c + 3 * at) c)) input)
@@ -90,8 +90,8 @@ module _ (c input : List ℕ) (h : LegalCircuit c) (sized : length input ≡ inp
   heads = h .sized .headed
 
   -- the gates before layer j and those from it on
-  counts-fall : (j : ℕ) → j ≤ depth c → gateCount (exponentAt c j) (drop j (exponents c)) ≤ gateCount outputExponent (exponents c)
-  counts-fall zero l = le-refl (gateCount outputExponent (exponents c))
+  counts-fall : (j : ℕ) → j ≤ depth c → gateCount (exponentAt c j) (drop j (exponents c)) ≤ gateCount (outputExponent c) (exponents c)
+  counts-fall zero l = le-refl (gateCount (outputExponent c) (exponents c))
   counts-fall (suc j) l =
       let ih = counts-fall j (omega arith) in
       let e : gateCount (exponentAt c j) (drop j ks) ≡ 2 ^ exponentAt c j + gateCount (exponentAt c (suc j)) (drop (suc j) ks) =
@@ -113,7 +113,7 @@ module _ (c input : List ℕ) (h : LegalCircuit c) (sized : length input ≡ inp
       let place : j + n ≡ length ks - 1 = omega arith in
       let whole : suc (length ks - 1) ≡ length ks = omega arith in
       ap (λ (t : List ℕ). getD t n 0) (sym (drop-cons ks j 0 (omega arith))) ∙ getD-drop j ks n 0 ∙ ap (λ (i : ℕ). getD ks i 0) place
-      ∙ ap (λ (i : ℕ). getD (outputExponent ∷ ks) i 0) whole
+      ∙ ap (λ (i : ℕ). getD (outputExponent c ∷ ks) i 0) whole
 
   -- the layer that follows has room
   next-room : (j : ℕ) → j ≤ depth c → 2 ^ exponentAt c j ≤ gateCount (exponentAt c j) (drop j (exponents c)) + inputCount c
@@ -127,11 +127,11 @@ module _ (c input : List ℕ) (h : LegalCircuit c) (sized : length input ≡ inp
       go (no q) = omega (arith, count-at c (depth c) heads (exponentAt c j) j (omega arith))
 
   -- the legality of layer j's gates and of those after it, at their place
-  wired-from : (j at : ℕ) → j ≤ depth c → at + gateCount (exponentAt c j) (drop j (exponents c)) ≡ gateCount outputExponent (exponents c)
+  wired-from : (j at : ℕ) → j ≤ depth c → at + gateCount (exponentAt c j) (drop j (exponents c)) ≡ gateCount (outputExponent c) (exponents c)
       → layersCause (drop j (exponents c)) (layersOf (exponentAt c j) (drop j (exponents c)) (drop (gatesStart c + 3 * at) c)) ≡ 0
   wired-from zero at l e =
       let place : gatesStart c ≡ gatesStart c + 3 * at = omega arith in
-      subst (λ (n : ℕ). layersCause ks (layersOf outputExponent ks (drop n c)) ≡ 0) place (sym (layers-start c (depth c) (h .sized)) ∙ h .wired)
+      subst (λ (n : ℕ). layersCause ks (layersOf (outputExponent c) ks (drop n c)) ≡ 0) place (sym (layers-start c (depth c) (h .sized)) ∙ h .wired)
   wired-from (suc j) at l e =
       let k : ℕ = exponentAt c j in
       let more : gateCount k (drop j ks) ≡ 2 ^ k + gateCount (exponentAt c (suc j)) (drop (suc j) ks) =
@@ -150,7 +150,7 @@ module _ (c input : List ℕ) (h : LegalCircuit c) (sized : length input ≡ inp
   N = words (primeOf c)
 
   -- the input alone
-  filled-input : (values : List ℕ) (at : ℕ) → at ≡ gateCount outputExponent (exponents c) → Placed input at values → Filled c input values (depth c) at
+  filled-input : (values : List ℕ) (at : ℕ) → at ≡ gateCount (outputExponent c) (exponents c) → Placed input at values → Filled c input values (depth c) at
   unfolding valueCount layersOf
   filled-input values at e placed =
       let none : drop (depth c) ks ≡ [] = drop-of-length-le ks {i = depth c} (omega (arith, length-exponents c (depth c) heads)) in
@@ -180,7 +180,7 @@ module _ (c input : List ℕ) (h : LegalCircuit c) (sized : length input ≡ inp
     layer-fits : count ≤ from
     layer-fits = omega (arith, more, F .place, counts-fall j (omega arith))
 
-    place : at + gateCount (exponentAt c j) (drop j (exponents c)) ≡ gateCount outputExponent (exponents c)
+    place : at + gateCount (exponentAt c j) (drop j (exponents c)) ≡ gateCount (outputExponent c) (exponents c)
     place = omega (arith, more, F .place, layer-fits)
 
     -- the gates are inside the list
@@ -326,19 +326,19 @@ module _ (c input : List ℕ) (h : LegalCircuit c) (sized : length input ≡ inp
       let z : at ≡ 0 = omega (arith, F .place) in
       let start : gatesStart c + 3 * 0 ≡ gatesStart c = omega arith in
       let holds = subst (λ (m : ℕ). take (valueCount c - m) (drop m values)
-      ≡ flatten (layersFrom N (layersOf outputExponent ks (drop (gatesStart c + 3 * m) c)) input)) z (F .holds) in
+      ≡ flatten (layersFrom N (layersOf (outputExponent c) ks (drop (gatesStart c + 3 * m) c)) input)) z (F .holds) in
       record {
         size = F .size;
         holds = ap (λ (m : ℕ). take m values) (sym (sub-zero (valueCount c))) ∙ holds
-            ∙ ap (λ (m : ℕ). flatten (layersFrom N (layersOf outputExponent ks (drop m c)) input)) start;
+            ∙ ap (λ (m : ℕ). flatten (layersFrom N (layersOf (outputExponent c) ks (drop m c)) input)) start;
       }
 
   -- before the first turn
-  pub input-fits : (at : ℕ) → at ≡ gateCount outputExponent (exponents c) → at + length input ≤ maxValues
+  pub input-fits : (at : ℕ) → at ≡ gateCount (outputExponent c) (exponents c) → at + length input ≤ maxValues
   unfolding valueCount
   input-fits at e = omega (arith, e, sized, total-fits)
 
-  pub filled-start : (values : List ℕ) (at : ℕ) → at ≡ gateCount outputExponent (exponents c) → Placed input at values → Filled c input values (depth c - 0) at
+  pub filled-start : (values : List ℕ) (at : ℕ) → at ≡ gateCount (outputExponent c) (exponents c) → Placed input at values → Filled c input values (depth c - 0) at
   filled-start values at e placed = subst (λ (j : ℕ). Filled c input values j at) (sym (sub-zero (depth c))) (filled-input values at e placed)
 
   pub input-width : length input ≡ 2 ^ exponentAt c (depth c - 0)
@@ -348,12 +348,12 @@ module _ (c input : List ℕ) (h : LegalCircuit c) (sized : length input ≡ inp
 
   -- the array's first word is the output
   pub output-first : (values : List ℕ) → take (valueCount c) values ≡ flatten (layers c input) → getD values 0 0 ≡ value c input
-  unfolding layers gateLayers valuesAt value valueCount
+  unfolding layers gateLayers valuesAt value valueCount outputExponent
   output-first values v =
-      let ls : List (List Gate) = layersOf outputExponent ks (drop (gatesStart c) c) in
+      let ls : List (List Gate) = layersOf (outputExponent c) ks (drop (gatesStart c) c) in
       let first : List ℕ = getD (layersFrom N ls input) 0 [] in
       let size : length first ≡ 1 =
-      first-size N outputExponent ks (drop (gatesStart c) c) input (sized ∙ ap (λ (k : ℕ). 2 ^ k) (sym (last-at 0 (omega arith)))) in
+      first-size N (outputExponent c) ks (drop (gatesStart c) c) input (sized ∙ ap (λ (k : ℕ). 2 ^ k) (sym (last-at 0 (omega arith)))) in
       sym (getD-take (valueCount c) values 0 0 (omega (arith, pow-pos (inputExponent c))))
       ∙ ap (λ (t : List ℕ). getD t 0 0) (v ∙ layers-first N ls input)
       ∙ List·getD-append first (flatten (drop 1 (layersFrom N ls input))) 0 0 (omega arith)

@@ -11,25 +11,25 @@ use Rattle.algebra.specs.Numbers.{words}
 use Rattle.multilinear.specs.Extension.{extension, halving}
 use Rattle.multilinear.proofs.Words.{halving-on-words}
 use Rattle.circuit.specs.Limits.{maxExponent}
-use Rattle.circuit.specs.Circuit.{primeOf, depth, exponents, exponentAt, inputExponent}
+use Rattle.circuit.specs.Circuit.{primeOf, depth, outputExponent, exponents, exponentAt, inputExponent}
 use Rattle.circuit.specs.Sized.{LayerOf, LegalCircuit}
 use Rattle.circuit.proofs.Layers.{all-below}
 use Rattle.circuit.proofs.Loading.{legal-lists}
 use Rattle.circuit.proofs.Sized.{deep}
 use Rattle.protocol.specs.Judge.{pointAt, inputAgrees}
+use Rattle.protocol.specs.Check.{Counted}
 use Rattle.protocol.proofs.Truth.{positive}
 use Rattle.standing.specs.Standing.{AtLayer, Row}
-use Rattle.judgement.specs.Finished.{Finished}
 use Rattle.standing.proofs.Gates.{exponent-small}
 use Rattle.standing.proofs.Points.{point-length}
 use Rattle.standing.proofs.Coins.{layer-of, so-far, sum-start, sum-all, sum-coins}
 
-module _ (c input cs : List ℕ) (h : Finished c input cs) where
+module _ (c input cs : List ℕ) (h : Counted c input cs) where
   pub legal : LegalCircuit c
   legal = legal-lists c input (h .lists) .circuit
 
-  pub behind-last : AtLayer c (depth c + 1) cs
-  behind-last = record { legal = legal; first = omega arith; last = omega arith; counted = h .counted ∙ sym (sum-coins c) ∙ sym (sum-all c 2 legal) ∙ sum-start c (depth c + 1) (so-far c legal) }
+  pub behind-last : AtLayer c (depth c + 1) (length cs)
+  behind-last = record { legal = legal; first = omega arith; last = omega arith; counted = h .coins ∙ sym (sum-coins c) ∙ sym (sum-all c (outputExponent c) 2 legal) ∙ sum-start c (depth c + 1) (so-far c legal) }
 
   last-layer : LayerOf c (depth c)
   last-layer = layer-of c legal (depth c) (omega arith)

@@ -11,12 +11,13 @@ use Rattle.circuit.specs.Gate.{Gate}
 use Rattle.circuit.specs.Circuit.{primeOf, exponentAt}
 use Rattle.sumcheck.specs.Summand.{combined}
 use Rattle.summand.specs.Gates.{gatesIn}
+use Rattle.protocol.specs.Rounds.{place, AtRound}
 use Rattle.protocol.specs.Judge.{fixed, pointAt, gatesAbove, lineClaim}
-use Rattle.standing.specs.Standing.{AtRound, Stands}
+use Rattle.standing.specs.Standing.{Stands}
 use Rattle.standing.specs.declared.Stand.{Stand}
 use Rattle.standing.proofs.Rounds.{own-coins, above-point}
 
-pub line-claim : (c : List ℕ) (layer : ℕ) (past : List ℕ) → AtRound c layer (2 * exponentAt c layer) past → (s : Stand) → Stands c layer past s
+pub line-claim : (c : List ℕ) (layer : ℕ) (past : List ℕ) → AtRound c (place layer (2 * exponentAt c layer)) (length past) → (s : Stand) → Stands c layer past s
     → (x y r : ℕ)
     → r ≡ combined (words (primeOf c)) (gatesIn (take (s .to - s .from) (drop (s .from) c))) (take (s .above) (s .point)) (take (s .own) (s .u)) (take (s .own) (s .v)) x y
     → r ≡ lineClaim c layer (pointAt c layer past) (fixed c layer past) x y
@@ -34,6 +35,6 @@ line-claim c layer past h s t x y r e =
     ∙ ap₂ (λ (i j : List ℕ). combined N (gatesAbove c layer) (pointAt c layer past) i j x y) u v
 
 -- the code's round is the line's
-pub stood : (c : List ℕ) (layer k : ℕ) (past : List ℕ) (s : Stand) → AtRound c layer (2 * exponentAt c layer) past → k ≡ exponentAt c layer
-    → (AtRound c layer (2 * k) past → Stands c layer past s) → Stands c layer past s
-stood c layer k past s h e f = f (subst (λ (n : ℕ). AtRound c layer (2 * n) past) (sym e) h)
+pub stood : (c : List ℕ) (layer k : ℕ) (past : List ℕ) (s : Stand) → AtRound c (place layer (2 * exponentAt c layer)) (length past) → k ≡ exponentAt c layer
+    → (AtRound c (place layer (2 * k)) (length past) → Stands c layer past s) → Stands c layer past s
+stood c layer k past s h e f = f (subst (λ (n : ℕ). AtRound c (place layer (2 * n)) (length past)) (sym e) h)

@@ -97,7 +97,7 @@ fn check_layers(circuit: &[u32], depth: usize) -> Checked
 
 // The gates that a circuit's exponents call for.
 pub fn gate_count(circuit: &[u32]) -> usize
-    ensures { λ r. ⌜ (Exponents (now (circuit .entry)) (depth (now (circuit .entry))) → r ≡ gateCount outputExponent (exponents (now (circuit .entry)))) ⌝ }
+    ensures { λ r. ⌜ (Exponents (now (circuit .entry)) (depth (now (circuit .entry))) → r ≡ gateCount (outputExponent (now (circuit .entry))) (exponents (now (circuit .entry)))) ⌝ }
 {
     if circuit.len() < 2 {
         return 0;

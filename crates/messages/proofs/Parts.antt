@@ -21,7 +21,7 @@ part-small c layer from k w before ew = omega (arith, before .few, ew, width-sma
 -- it is the layer's
 module _ (c : List ℕ) (layer round : ℕ) (past values buffer : List ℕ) (h : Writable c layer round past (valuesIn c layer values) buffer) (from k w : ℕ)
     (before : GatesBefore c layer from) (ek : k ≡ exponentAt c layer) (ew : w ≡ widthOf k) where
-  at-from : from ≡ gateCount outputExponent (take layer (exponents c))
+  at-from : from ≡ gateCount (outputExponent c) (take layer (exponents c))
   at-from = before .counted (h .there .legal) (h .there .last)
 
   wide : w ≡ 2 ^ exponentAt c layer
@@ -30,7 +30,7 @@ module _ (c : List ℕ) (layer round : ℕ) (past values buffer : List ℕ) (h :
   pub part-inside : from + w ≤ length values
   part-inside =
       let n : ℕ = 2 ^ exponentAt c layer in
-      let m : ℕ = gateCount outputExponent (take layer (exponents c)) in
+      let m : ℕ = gateCount (outputExponent c) (take layer (exponents c)) in
       let some : 0 < n = pow-pos (exponentAt c layer) in
       omega (arith, at-from, wide, some, h .sized, length-take n (drop m values), length-drop m values)
 

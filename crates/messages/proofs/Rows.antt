@@ -34,10 +34,10 @@ use Rattle.line.specs.Row.{padded}
 use Rattle.line.proofs.Parts.{take-front}
 use Rattle.sums.specs.Round.{fixedFirst, fixedSecond}
 use Rattle.sums.proofs.Rounds.{honest-round}
-use Rattle.protocol.specs.Rounds.{place, isLine}
+use Rattle.protocol.specs.Rounds.{place, isLine, AtRound}
 use Rattle.protocol.specs.Judge.{fixed, pointAt, gatesAbove, messageLength}
 use Rattle.protocol.specs.Prove.{messageFrom}
-use Rattle.standing.specs.Standing.{AtRound, Row, Stands, gatesFrom}
+use Rattle.standing.specs.Standing.{Row, Stands, gatesFrom}
 use Rattle.standing.specs.declared.Stand.{Stand}
 use Rattle.standing.proofs.Gates.{gates-at}
 use Rattle.standing.proofs.Lengths.{length-of-line, length-of-sum}
@@ -77,7 +77,7 @@ rows-back k xs u v small fits first second = go (decLt (length xs) k)
         ∙ take-append-drop k xs
 
 module _ (c : List ℕ) (layer round : ℕ) (past vs buffer : List ℕ) (h : Writable c layer round past vs buffer) where
-  here : AtRound c layer round past
+  here : AtRound c (place layer round) (length past)
   here = h .there
 
   prime : Prime (primeOf c)

@@ -16,29 +16,26 @@ use Rattle.refusal.specs.Order.{need}
 use Rattle.refusal.specs.declared.Cause.{Cause}
 use Rattle.refusal.specs.declared.Cause.the-variants.{BufferShort, CoinCount, CoinWord}
 use Rattle.refusal.proofs.Order.{refused-first, numbered-suc, left-by}
-use Rattle.circuit.specs.Circuit.{primeOf, depth, exponentAt, coinCount}
+use Rattle.circuit.specs.Circuit.{primeOf, depth, outputExponent, exponentAt, coinCount}
 use Rattle.circuit.specs.Legal.{allBelow, listsCause}
 use Rattle.circuit.specs.Sized.{LegalCircuit}
-use Rattle.circuit.proofs.Sized.{deep}
+use Rattle.circuit.proofs.Sized.{one-output, deep}
 use Rattle.evaluation.specs.Layer.{AllValues}
-use Rattle.protocol.specs.Rounds.{Place, place, rounds, layerStart}
+use Rattle.protocol.specs.Rounds.{Place, place, rounds, layerStart, AtRound}
 use Rattle.protocol.specs.Judge.{messageLength}
 use Rattle.protocol.specs.Prove.{messageFrom, honest, placeOf, proveOneCause, wrote, refused, oneOf, proveOneAnswer, proveOneBuffer}
 use Rattle.protocol.proofs.Points.{start-next}
 use Rattle.protocol.proofs.Places.{place-at}
-use Rattle.standing.specs.Standing.{AtRound}
 use Rattle.standing.proofs.Coins.{so-far, sum-all, sum-start, sum-coins}
 use Rattle.messages.specs.Writing.{valuesIn}
-use Rattle.prover.specs.Writing.{Follows}
 use Rattle.prover.specs.Answers.{ProvesOne}
-use Rattle.prover.specs.declared.Place.{Place as At}
 use Rattle.prover.specs.declared.Message.the-variants.{Written, Refused}
 use Rattle.prover.proofs.Values.{layer-values}
 
 -- THE ROUND
 module _ (c : List ℕ) (legal : LegalCircuit c) where
   all-coins : layerStart c (depth c + 1) ≡ coinCount c
-  all-coins = sym (sum-start c (depth c + 1) (so-far c legal)) ∙ sum-all c 2 legal ∙ sum-coins c
+  all-coins = sym (sum-start c (depth c + 1) (so-far c legal)) ∙ sum-all c (outputExponent c) 2 legal ∙ sum-coins c
 
   start-after : (i : ℕ) → 1 ≤ i → i ≤ depth c → layerStart c (i + 1) ≡ layerStart c i + 2 * exponentAt c i + 1
   start-after zero low n = absurd (omega arith)
@@ -46,7 +43,7 @@ module _ (c : List ℕ) (legal : LegalCircuit c) where
 
   -- no coins before the first layer
   pub first-layer : (n : ℕ) → (1 ≤ 1) × (1 ≤ depth c) × (n ≡ layerStart c 1 + n)
-  first-layer n = (omega arith, legal .some, omega (arith, sum-nil))
+  first-layer n = (omega arith, legal .some, omega (arith, sum-nil, one-output c))
 
   module _ (n layer round k : ℕ) (low : 1 ≤ layer) (inside : layer ≤ depth c) (counted : n ≡ layerStart c layer + round) (own : k ≡ exponentAt c layer) where
     -- past a layer's line there is another layer
@@ -56,21 +53,18 @@ module _ (c : List ℕ) (legal : LegalCircuit c) where
         let more : ¬ (layer ≡ depth c) = λ (e : layer ≡ depth c). omega (arith, ap (λ (i : ℕ). layerStart c (i + 1)) e, all-coins) in
         (omega arith, omega (arith, more), omega arith)
 
-    pub this-layer : round ≤ 2 * k → Follows c n (record { layer = layer; round = round })
-    this-layer reached = record {
-      named = ap (λ (m : ℕ). getD (rounds c) m (place 0 0)) counted ∙ go layer low inside (omega arith);
-      first = low;
-      last = inside;
-      reached = omega arith;
-      counted = counted;
-    }
-      where
-        go : (i : ℕ) → 1 ≤ i → i ≤ depth c → round ≤ 2 * exponentAt c i → getD (rounds c) (layerStart c i + round) (place 0 0) ≡ place i round
-        go zero f l r = absurd (omega arith)
-        go (suc l) f i r = place-at c l round (place 0 0) (omega (arith, deep c legal)) r
+    pub this-layer : round ≤ 2 * k → AtRound c (place layer round) n
+    this-layer reached = record { legal = legal; first = low; last = inside; reached = omega arith; counted = counted }
 
-  pub at-round : (past : List ℕ) (at : At) → Follows c (length past) at → AtRound c (at .layer) (at .round) past
-  at-round past at f = record { legal = legal; first = f .first; last = f .last; reached = f .reached; counted = f .counted }
+-- the round after a prefix is the one that the prefix names
+named : (c prefix : List ℕ) (r : Place) → AtRound c r (length prefix) → placeOf c prefix ≡ r
+named c prefix r h =
+    ap (λ (n : ℕ). getD (rounds c) (n - outputExponent c) (place 0 0)) (h .counted) ∙ go (r .layer) (h .first) (h .last) (h .reached)
+  where
+    go : (i : ℕ) → 1 ≤ i → i ≤ depth c → r .round ≤ 2 * exponentAt c i
+        → getD (rounds c) (layerStart c i + r .round - outputExponent c) (place 0 0) ≡ place i (r .round)
+    go zero f l m = absurd (omega arith)
+    go (suc l) f i m = place-at c l (r .round) (place 0 0) (omega (arith, deep c (h .legal))) m
 
 -- THE ANSWER
 module _ (c input prefix before : List ℕ) where
@@ -99,26 +93,23 @@ module _ (c input prefix before : List ℕ) where
       unfolding proveOneCause
       one-word e = by-cause CoinWord (simp (none, lt-ltb (length prefix) (coinCount c) few, e))
 
-      module _ (residues : allBelow (primeOf c) prefix ≡ true) (at : At) (f : Follows c (length prefix) at) where
-        abbrev here : Place
-        here = place (at .layer) (at .round)
-
+      module _ (residues : allBelow (primeOf c) prefix ≡ true) (here : Place) (there : AtRound c here (length prefix)) where
         only-room : proveOneCause c input prefix before ≡ need (leb (messageLength c here) (length before)) 10 0
         unfolding proveOneCause
-        only-room = simp (none, lt-ltb (length prefix) (coinCount c) few, residues, f .named)
+        only-room = simp (none, lt-ltb (length prefix) (coinCount c) few, residues, named c prefix here there)
 
         pub one-short : length before < messageLength c here → ProvesOne c input prefix before (Refused BufferShort) before
         one-short l = by-cause BufferShort (only-room ∙ ap (λ (b : Bool). need b 10 0) (lt-leb (messageLength c here) (length before) l))
 
         -- the honest message over the buffer
         pub one-written : (n : ℕ) (values after : List ℕ) → n ≡ messageLength c here → n ≤ length before → AllValues c input values
-            → after ≡ over (messageFrom c (valuesIn c (at .layer) values) here prefix) before → ProvesOne c input prefix before (Written n) after
+            → after ≡ over (messageFrom c (valuesIn c (here .layer) values) here prefix) before → ProvesOne c input prefix before (Written n) after
         unfolding proveOneAnswer proveOneBuffer honest
         one-written n values after en room a e =
             let none-left : proveOneCause c input prefix before ≡ 0 = only-room ∙ ap (λ (b : Bool). need b 10 0) (le-leb (messageLength c here) (length before) (omega arith)) in
-            let same : messageFrom c (valuesIn c (at .layer) values) here prefix ≡ honest c input (placeOf c prefix) prefix =
-            ap (λ (vs : List ℕ). messageFrom c vs here prefix) (layer-values c input none values a (at .layer) (f .last)) ∙ ap (λ (r : Place). honest c input r prefix) (sym (f .named)) in
+            let same : messageFrom c (valuesIn c (here .layer) values) here prefix ≡ honest c input (placeOf c prefix) prefix =
+            ap (λ (vs : List ℕ). messageFrom c vs here prefix) (layer-values c input none values a (here .layer) (there .last)) ∙ ap (λ (r : Place). honest c input r prefix) (sym (named c prefix here there)) in
             record {
-              answer = ap wrote (en ∙ ap (messageLength c) (sym (f .named))) ∙ sym (ap (λ (k : ℕ). oneOf k (messageLength c (placeOf c prefix))) none-left);
+              answer = ap wrote (en ∙ ap (messageLength c) (sym (named c prefix here there))) ∙ sym (ap (λ (k : ℕ). oneOf k (messageLength c (placeOf c prefix))) none-left);
               buffer = e ∙ ap (λ (m : List ℕ). over m before) same ∙ sym (ap (λ (k : ℕ). cond (eqb k 0) (over (honest c input (placeOf c prefix) prefix) before) before) none-left);
             }

@@ -30,7 +30,7 @@ module _ (c input cs before : List ℕ) where
       let s : numberOf cause ≡ suc (numbered-suc cause .0) = numbered-suc cause .1 in
       record {
         answer = ap refused s ∙ sym (ap (λ (k : ℕ). proofOf k (value c input) (messageWords c)) (e ∙ s));
-        buffer = sym (left-by cause (proveCause c input cs before) (over (transcript c input (honest c input) cs) before) before e);
+        buffer = sym (left-by cause (proveCause c input cs before) (over (transcript c (honest c input) cs) before) before e);
       }
 
   pub whole-lists : (cause : Cause) → numberOf cause ≡ listsCause c input → Proves c input cs before (Refused cause) before
@@ -61,7 +61,7 @@ module _ (c input cs before : List ℕ) where
 
       module _ (room : messageWords c ≤ length before) where
         pub provable : Provable c input cs before
-        provable = record { lists = lists; counted = eqb-true (length cs) (coinCount c) (need-none (eqb (length cs) (coinCount c)) 10 _ coins .0); room = room }
+        provable = record { given = record { lists = lists; coins = eqb-true (length cs) (coinCount c) (need-none (eqb (length cs) (coinCount c)) 10 _ coins .0) }; room = room }
 
         no-cause : proveCause c input cs before ≡ 0
         no-cause = after-coins ∙ ap (λ (b : Bool). need b 10 0) (le-leb (messageWords c) (length before) room)

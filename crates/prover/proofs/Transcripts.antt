@@ -11,28 +11,28 @@ use Rattle.lists.specs.Count.{sum}
 use Rattle.lists.specs.Buffer.{over}
 use Rattle.lists.proofs.Count.{sum-nil, sum-cons}
 use Rattle.lists.proofs.Buffer.{length-over, over-over, over-more}
-use Rattle.circuit.specs.Circuit.{depth, exponentAt, messageWords}
+use Rattle.circuit.specs.Circuit.{depth, outputExponent, exponentAt, messageWords}
 use Rattle.circuit.specs.Sized.{LegalCircuit}
 use Rattle.circuit.specs.Values.{valuesAt}
 use Rattle.circuit.proofs.Loading.{legal-lists}
 use Rattle.walk.proofs.Saying.{Saying, saying-all, saying-none, said-more, saying-next}
-use Rattle.protocol.specs.Rounds.{Place, place, rounds}
-use Rattle.protocol.specs.Judge.{messageLength, descent}
+use Rattle.protocol.specs.Rounds.{Place, place, rounds, layerStart, AtRound}
+use Rattle.protocol.specs.Judge.{messageLength}
 use Rattle.protocol.specs.Prove.{messageFrom, honest, transcript}
 use Rattle.protocol.proofs.Rounds.{as-many}
 use Rattle.protocol.proofs.Sums.{message-words}
 use Rattle.protocol.proofs.Places.{before-round}
-use Rattle.standing.specs.Standing.{AtRound}
+use Rattle.standing.specs.Standing.{LayerSoFar}
 use Rattle.standing.proofs.Loops as loops
 use Rattle.prover.specs.Writing.{Provable}
 
 module _ (c input cs first : List ℕ) where
   abbrev all : List ℕ
-  all = transcript c input (honest c input) cs
+  all = transcript c (honest c input) cs
 
   -- the rounds left, after `at` words
   abbrev Rest : ℕ → List Place → ℕ → Type 0
-  Rest at rest n = Saying (descent c input) (honest c input) (rounds c) cs rest n at × (at + sum (map (messageLength c) rest) ≡ messageWords c)
+  Rest at rest n = Saying (honest c input) (rounds c) (outputExponent c) cs rest n at × (at + sum (map (messageLength c) rest) ≡ messageWords c)
 
   pub record BeforeLayer (layer n at : ℕ) (buffer : List ℕ) : Type 0 where
     pub reached : loops.BeforeLayer c (Rest at) layer n
@@ -44,11 +44,14 @@ module _ (c input cs first : List ℕ) where
 
   module _ (h : Provable c input cs first) where
     legal : LegalCircuit c
-    legal = legal-lists c input (h .lists) .circuit
+    legal = legal-lists c input (h .given .lists) .circuit
 
-    pub all-start : BeforeLayer 1 0 0 first
-    all-start = record {
-      reached = loops.loops-start c legal (Rest 0) (saying-all (descent c input) (honest c input) (rounds c) cs (h .counted ∙ sym (as-many c)), omega (arith, message-words c));
+    pub first-layer : LayerSoFar c 1
+    first-layer = loops.first-layer c legal (Rest 0)
+
+    pub all-start : (n : ℕ) → n ≡ layerStart c 1 → BeforeLayer 1 n 0 first
+    all-start n e = record {
+      reached = loops.loops-start c legal (Rest 0) n e (saying-all (honest c input) (rounds c) (outputExponent c) cs (h .given .coins ∙ sym (as-many c)), omega (arith, message-words c));
       written = refl;
     }
 
@@ -62,7 +65,7 @@ module _ (c input cs first : List ℕ) where
     unfolding transcript
     all-end layer n at buffer b out =
         let end = loops.loops-end c legal (Rest at) layer n (b .reached) out in
-        let size = saying-none (descent c input) (honest c input) (rounds c) cs n at (end .0) in
+        let size = saying-none (honest c input) (rounds c) (outputExponent c) cs n at (end .0) in
         (omega (arith, end .1, sum-nil), b .written ∙ ap (λ (l : List ℕ). over l first) (take-all at all (le-of-eq size)))
 
     module _ (layer round n at : ℕ) (buffer : List ℕ) (b : BeforeRound layer round n at buffer) (more : round < 2 * exponentAt c layer + 1) where
@@ -72,7 +75,7 @@ module _ (c input cs first : List ℕ) where
       pub coins-there : n < length cs
       coins-there = omega (arith, opened .0 .coins)
 
-      pub round-place : AtRound c layer round (take n cs)
+      pub round-place : AtRound c (place layer round) (length (take n cs))
       round-place = loops.round-place c legal (Rest at) layer round n (b .reached) more cs (let there = coins-there in omega arith)
 
       enough : at + messageLength c (place layer round) ≤ length first
@@ -102,14 +105,14 @@ module _ (c input cs first : List ℕ) where
           record {
             reached =
                 loops.round-next c legal (Rest at) layer round n (b .reached) more (Rest (at + w)) (
-                  subst (λ (m : ℕ). Saying (descent c input) (honest c input) (rounds c) cs (before-round c layer (round + 1)) (n + 1) (at + m)) sw
-                      (saying-next (descent c input) (honest c input) (rounds c) cs (place layer round) (before-round c layer (round + 1)) n at said),
+                  subst (λ (m : ℕ). Saying (honest c input) (rounds c) (outputExponent c) cs (before-round c layer (round + 1)) (n + 1) (at + m)) sw
+                      (saying-next (honest c input) (rounds c) (outputExponent c) cs (place layer round) (before-round c layer (round + 1)) n at said),
                   omega (arith, ew, opened .1, sum-cons (messageLength c (place layer round)) (map (messageLength c) (before-round c layer (round + 1)))),
                 );
             written =
                 over-more (take at all) message first buffer part at (b .written) front e (omega (arith, front, size))
                 ∙ ap (λ (l : List ℕ). over l first)
-                (sym (said-more (descent c input) (honest c input) (rounds c) cs (place layer round) (before-round c layer (round + 1)) n at said)
+                (sym (said-more (honest c input) (rounds c) (outputExponent c) cs (place layer round) (before-round c layer (round + 1)) n at said)
                 ∙ ap (λ (m : ℕ). take (at + m) all) sw);
           }
 
@@ -118,18 +121,18 @@ module _ (c input cs first : List ℕ) (h : Provable c input cs first) (layer n 
   inside : at ≤ messageWords c
   inside = let rest = b .reached .left .1 in omega arith
 
-  short : length (take at (transcript c input (honest c input) cs)) ≤ length first
-  short = let low = inside in omega (arith, h .room, length-take at (transcript c input (honest c input) cs))
+  short : length (take at (transcript c (honest c input) cs)) ≤ length first
+  short = let low = inside in omega (arith, h .room, length-take at (transcript c (honest c input) cs))
 
   pub lent-size : length buffer ≡ length first
-  lent-size = ap length (b .written) ∙ length-over (take at (transcript c input (honest c input) cs)) first short
+  lent-size = ap length (b .written) ∙ length-over (take at (transcript c (honest c input) cs)) first short
 
   pub lent : Provable c input cs buffer
-  lent = record { lists = h .lists; counted = h .counted; room = omega (arith, h .room, lent-size) }
+  lent = record { given = h .given; room = omega (arith, h .room, lent-size) }
 
   pub lent-layer : layer ≤ depth c → BeforeRound c input cs buffer layer 0 n at buffer
   lent-layer low =
-      let ms : List ℕ = take at (transcript c input (honest c input) cs) in
+      let ms : List ℕ = take at (transcript c (honest c input) cs) in
       record {
         reached = layer-starts c input cs first h layer n at buffer b low .reached;
         written = b .written ∙ sym (ap (over ms) (b .written) ∙ over-over ms ms first (le-refl (length ms)));
@@ -137,7 +140,7 @@ module _ (c input cs first : List ℕ) (h : Provable c input cs first) (layer n 
 
   pub given-back : (round m at′ : ℕ) (after : List ℕ) → at ≤ at′ → BeforeRound c input cs buffer layer round m at′ after → BeforeRound c input cs first layer round m at′ after
   given-back round m at′ after low r =
-      let all : List ℕ = transcript c input (honest c input) cs in
+      let all : List ℕ = transcript c (honest c input) cs in
       record {
         reached = r .reached;
         written = r .written ∙ ap (over (take at′ all)) (b .written) ∙ over-over (take at all) (take at′ all) first (omega (arith, length-take at all, length-take at′ all));

@@ -28,9 +28,8 @@ use Rattle.evaluation.specs.Evaluate.{Evaluates, evaluateCause, evaluateBuffer}
 use Rattle.evaluation.specs.declared.Evaluated.{Evaluated}
 use Rattle.evaluation.proofs.Answering.{total-room}
 use Rattle.evaluation.proofs.Evaluating.{output-first}
-use Rattle.protocol.specs.Rounds.{place}
+use Rattle.protocol.specs.Rounds.{place, AtRound}
 use Rattle.protocol.specs.Judge.{messageLength}
-use Rattle.standing.specs.Standing.{AtRound}
 use Rattle.standing.proofs.Gates.{count-none, count-more}
 use Rattle.messages.specs.Writing.{valuesIn, Writable}
 
@@ -44,24 +43,24 @@ module _ (c input : List ℕ) (e : listsCause c input ≡ 0) where
   legal = legal-lists c input e .circuit
 
   -- the words before a layer
-  before-layer : (l : ℕ) → l ≤ depth c → sum (map length (take l (layers c input))) ≡ gateCount outputExponent (take l (exponents c))
+  before-layer : (l : ℕ) → l ≤ depth c → sum (map length (take l (layers c input))) ≡ gateCount (outputExponent c) (take l (exponents c))
   unfolding valuesAt
   before-layer zero h = sum-nil ∙ count-none c
   before-layer (suc l) h =
       sum-take length (layers c input) [] l (omega (arith, length-all-layers c input legal))
       ∙ ap₂ (λ (a b : ℕ). a + b) (before-layer l (omega arith)) (layer-sizes c input e l (omega arith))
-      ∙ sym (count-more outputExponent (exponents c) l (omega (arith, deep c legal)))
+      ∙ sym (count-more (outputExponent c) (exponents c) l (omega (arith, deep c legal)))
 
-  layer-part : (l : ℕ) → l ≤ depth c → take (2 ^ exponentAt c l) (drop (gateCount outputExponent (take l (exponents c))) (flatten (layers c input))) ≡ valuesAt c input l
+  layer-part : (l : ℕ) → l ≤ depth c → take (2 ^ exponentAt c l) (drop (gateCount (outputExponent c) (take l (exponents c))) (flatten (layers c input))) ≡ valuesAt c input l
   unfolding valuesAt
   layer-part l h =
       ap₂ (λ (n m : ℕ). take n (drop m (flatten (layers c input)))) (sym (layer-sizes c input e l h)) (sym (before-layer l h))
       ∙ flatten-part (layers c input) l (omega (arith, length-all-layers c input legal))
 
-  layer-room : (l : ℕ) → l ≤ depth c → gateCount outputExponent (take l (exponents c)) + 2 ^ exponentAt c l ≤ length (flatten (layers c input))
+  layer-room : (l : ℕ) → l ≤ depth c → gateCount (outputExponent c) (take l (exponents c)) + 2 ^ exponentAt c l ≤ length (flatten (layers c input))
   layer-room l h =
       let n : ℕ = 2 ^ exponentAt c l in
-      let m : ℕ = gateCount outputExponent (take l (exponents c)) in
+      let m : ℕ = gateCount (outputExponent c) (take l (exponents c)) in
       let some : 0 < n = pow-pos (exponentAt c l) in
       let size : length (take n (drop m (flatten (layers c input)))) ≡ n = ap length (layer-part l h) ∙ layer-sizes c input e l h in
       omega (arith, size, some, length-take n (drop m (flatten (layers c input))), length-drop m (flatten (layers c input)))
@@ -76,7 +75,7 @@ module _ (c input : List ℕ) (e : listsCause c input ≡ 0) where
       ∙ ap (λ (ls : List (List ℕ)). sum (map length ls)) (sym (take-all (suc d) (layers c input) (omega (arith, n))))
       ∙ sum-take length (layers c input) [] d (omega (arith, n))
       ∙ ap₂ (λ (a b : ℕ). a + b)
-      (before-layer d (omega arith) ∙ ap (gateCount outputExponent) (take-all d ks (omega (arith, deep c legal))))
+      (before-layer d (omega arith) ∙ ap (gateCount (outputExponent c)) (take-all d ks (omega (arith, deep c legal))))
       (layer-sizes c input e d (omega arith) ∙ ap (λ (i : ℕ). 2 ^ exponentAt c i) (sym (deep c legal)))
 
   -- what an evaluation leaves in a working array
@@ -99,14 +98,14 @@ module _ (c input : List ℕ) (e : listsCause c input ≡ 0) where
     pub layer-values : (layer : ℕ) → layer ≤ depth c → valuesIn c layer values ≡ valuesAt c input layer
     layer-values layer h =
         let n : ℕ = 2 ^ exponentAt c layer in
-        let m : ℕ = gateCount outputExponent (take layer (exponents c)) in
+        let m : ℕ = gateCount (outputExponent c) (take layer (exponents c)) in
         let whole : flatten (layers c input) ++ drop (valueCount c) values ≡ values =
         ap (λ (l : List ℕ). l ++ drop (valueCount c) values) (sym (a .holds)) ∙ take-append-drop (valueCount c) values in
         ap (λ (l : List ℕ). take n (drop m l)) (sym whole)
         ∙ part-of-front n m (flatten (layers c input)) (drop (valueCount c) values) (layer-room layer h)
         ∙ layer-part layer h
 
-    pub writable : (layer round : ℕ) (past buffer : List ℕ) → AtRound c layer round past → messageLength c (place layer round) ≤ length buffer
+    pub writable : (layer round : ℕ) (past buffer : List ℕ) → AtRound c (place layer round) (length past) → messageLength c (place layer round) ≤ length buffer
         → Writable c layer round past (valuesIn c layer values) buffer
     unfolding valuesAt
     writable layer round past buffer at room =

@@ -9,8 +9,9 @@ ghost use lib.ListN.{length};
 ghost use Rattle.circuit.specs.Limits.{maxValues};
 ghost use Rattle.circuit.specs.Legal.{listsCause};
 ghost use Rattle.circuit.specs.Sized.{LegalCircuit};
+ghost use Rattle.protocol.specs.Rounds.{place, AtRound};
 ghost use Rattle.evaluation.specs.Layer.{AllValues};
-ghost use Rattle.prover.specs.Writing.{Provable, Writes, Follows};
+ghost use Rattle.prover.specs.Writing.{Provable, Writes};
 ghost use Rattle.prover.specs.Answers.{Proves, ProvesOne};
 
 // An output, and the number of message words that were written for it.
@@ -46,7 +47,7 @@ fn write_all(circuit: &[u32], input: &[u32], coins: &[u32], messages: &mut [u32]
 {
     let mut values = [0u32; MAX_VALUES];
     fill_values(circuit, input, &mut values);
-    let mut n = 0;
+    let mut n = standing::coins_before(circuit, 1);
     let mut at = 0;
     for layer in 1..circuit[1] as usize + 1 {
         for round in 0..2 * standing::exponent(circuit, layer) as usize + 1 {
@@ -95,7 +96,7 @@ struct Place {
 // The round whose message follows these many coins.
 fn place_after(circuit: &[u32], coins: usize) -> Place
     requires { ⌜ LegalCircuit (now circuit) × (coins < coinCount (now circuit)) ⌝ }
-    ensures { λ r. ⌜ Follows (now (circuit .entry)) coins r ⌝ }
+    ensures { λ r. ⌜ AtRound (now (circuit .entry)) (place (r .layer) (r .round)) coins ⌝ }
 {
     let mut layer = 1;
     let mut round = coins;

@@ -15,18 +15,17 @@ use Rattle.refusal.specs.Order.{need, first}
 use Rattle.refusal.specs.declared.Cause.{Cause}
 use Rattle.refusal.specs.declared.Cause.the-variants.{RecordUnfit}
 use Rattle.refusal.proofs.Order.{numbered-suc, refused-first}
-use Rattle.circuit.specs.Circuit.{primeOf, depth, exponents, exponentAt, coinCount}
+use Rattle.circuit.specs.Circuit.{primeOf, depth, outputExponent, exponents, exponentAt, coinCount}
 use Rattle.circuit.specs.Legal.{allBelow, listsCause}
 use Rattle.circuit.proofs.Loading.{split-true}
 use Rattle.circuit.proofs.Sized.{deep}
 use Rattle.walk.specs.Session.{Answer, refused, Record, ended, stepFinal, stepLast, stepJudge, stepOpen, step}
-use Rattle.protocol.specs.Rounds.{Place, place, coinsOf, layerStart, isLine, coinsBefore, isLast}
+use Rattle.protocol.specs.Rounds.{Place, place, coinsOf, layerStart, isLine, coinsBefore, isLast, AtRound}
 use Rattle.protocol.specs.Judge.{messageAt, judge, inputAgrees, descent}
 use Rattle.protocol.specs.Check.{needCoins}
 use Rattle.protocol.specs.Session.{recordFits, stepCause, stepAfter, stepAnswer}
 use Rattle.protocol.proofs.Points.{start-next}
 use Rattle.protocol.proofs.Rounds.{coins-append}
-use Rattle.standing.specs.Standing.{AtRound}
 use Rattle.session.specs.Answers.{recordOf, verdictOf, Fitting, goesOn, GoesOn, StepsOpen, Steps}
 use Rattle.session.specs.declared.Session.{Session}
 use Rattle.session.specs.declared.Stepped.{Stepped}
@@ -57,7 +56,7 @@ module _ (c input cs : List ℕ) (s : Session) (h : Fitting c input cs s) (n : �
       omega (arith, en, own-end (s .layer) (o .low) (o .inside), some-coins c (s .layer))
 
   pub coin-inside : n < length cs
-  coin-inside = let inside = coin-in in omega (arith, h .counted)
+  coin-inside = let inside = coin-in in omega (arith, h .given .coins)
 
   pub coins-few : n ≤ 65536
   coins-few =
@@ -69,7 +68,7 @@ module _ (c input cs : List ℕ) (s : Session) (h : Fitting c input cs s) (n : �
       let before = start-few c (legal c input cs s h) (s .layer) inside in
       omega arith
 
-  pub at-round : AtRound c (s .layer) (s .round) (take n cs)
+  pub at-round : AtRound c (place (s .layer) (s .round)) (length (take n cs))
   at-round =
       let o = own c input cs s h in
       record {
@@ -88,14 +87,15 @@ module _ (c input cs : List ℕ) (s : Session) (h : Fitting c input cs s) (n : �
       let parts = split-true (isLine c here) _ e in
       let line : s .round ≡ 2 * exponentAt c (s .layer) = eqb-true (s .round) (2 * exponentAt c (s .layer)) (parts .0) in
       let last : s .layer ≡ length (exponents c) = eqb-true (s .layer) (length (exponents c)) (parts .1) in
-      let all : layerStart c (suc (length (exponents c))) ≡ coinsOf (exponents c) = ap coinsOf (take-all (length (exponents c)) (exponents c) (omega arith)) in
-      let end : layerStart c (suc (s .layer)) ≡ coinsOf (exponents c) = ap (λ (i : ℕ). layerStart c (suc i)) last ∙ all in
+      let all : layerStart c (suc (length (exponents c))) ≡ outputExponent c + coinsOf (exponents c) =
+      ap (λ (ks : List ℕ). outputExponent c + coinsOf ks) (take-all (length (exponents c)) (exponents c) (omega arith)) in
+      let end : layerStart c (suc (s .layer)) ≡ outputExponent c + coinsOf (exponents c) = ap (λ (i : ℕ). layerStart c (suc i)) last ∙ all in
       omega (arith, en, line, end, own-end (s .layer) (o .low) (o .inside))
 
   all-coins : isLast c here ≡ true → take n cs ++ (getD cs n 0 ∷ []) ≡ cs
   all-coins e =
       let last = last-coin e in
-      sym (take-suc cs n 0 coin-inside) ∙ take-all (suc n) cs (omega (arith, h .counted))
+      sym (take-suc cs n 0 coin-inside) ∙ take-all (suc n) cs (omega (arith, h .given .coins))
 
   module _ (m : List ℕ) where
     abbrev coin : ℕ
@@ -104,31 +104,31 @@ module _ (c input cs : List ℕ) (s : Session) (h : Fitting c input cs s) (n : �
     abbrev cause : ℕ
     cause = judge c here (take n cs) (s .claim) m
 
-    step-is : step (descent c input) cs (recordOf s) m ≡ stepJudge (descent c input) cause (take n cs) coin (recordOf s) m
+    step-is : step (descent c) (inputAgrees c input) cs (recordOf s) m ≡ stepJudge (descent c) (inputAgrees c input) cause (take n cs) coin (recordOf s) m
     unfolding step descent
     step-is =
         let o = own c input cs s h in
-        ap (λ (b : Bool). stepOpen (descent c input) b (take (coinsBefore c here) cs) (getD cs (coinsBefore c here) 0) (recordOf s) m) (o .opened)
-        ∙ ap (λ (i : ℕ). stepJudge (descent c input) (judge c here (take i cs) (s .claim) m) (take i cs) (getD cs i 0) (recordOf s) m) (sym en)
+        ap (λ (b : Bool). stepOpen (descent c) (inputAgrees c input) b (take (coinsBefore c here) cs) (getD cs (coinsBefore c here) 0) (recordOf s) m) (o .opened)
+        ∙ ap (λ (i : ℕ). stepJudge (descent c) (inputAgrees c input) (judge c here (take i cs) (s .claim) m) (take i cs) (getD cs i 0) (recordOf s) m) (sym en)
 
     follows : (b : Bool) → isLast c here ≡ b
-        → stepLast (descent c input) b (take n cs) coin (recordOf s) m ≡ goesOn c input cs s coin (messageAt c m coin) b
+        → stepLast (descent c) (inputAgrees c input) b (take n cs) coin (recordOf s) m ≡ goesOn c input cs s coin (messageAt c m coin) b
     unfolding descent
     follows false e = refl
-    follows true e = ap (λ (l : List ℕ). stepFinal (descent c input) (inputAgrees c input l (messageAt c m coin)) (recordOf s)) (all-coins e)
+    follows true e = ap (λ (l : List ℕ). stepFinal (inputAgrees c input l (messageAt c m coin)) (recordOf s)) (all-coins e)
 
-    step-goes : cause ≡ 0 → step (descent c input) cs (recordOf s) m ≡ goesOn c input cs s coin (messageAt c m coin) (isLast c here)
+    step-goes : cause ≡ 0 → step (descent c) (inputAgrees c input) cs (recordOf s) m ≡ goesOn c input cs s coin (messageAt c m coin) (isLast c here)
     step-goes e =
-        step-is ∙ ap (λ (k : ℕ). stepJudge (descent c input) k (take n cs) coin (recordOf s) m) e ∙ last-is ∙ follows (isLast c here) refl
+        step-is ∙ ap (λ (k : ℕ). stepJudge (descent c) (inputAgrees c input) k (take n cs) coin (recordOf s) m) e ∙ last-is ∙ follows (isLast c here) refl
       where
-        last-is : stepLast (descent c input) (descent c input .last here) (take n cs) coin (recordOf s) m
-            ≡ stepLast (descent c input) (isLast c here) (take n cs) coin (recordOf s) m
+        last-is : stepLast (descent c) (inputAgrees c input) (descent c .last here) (take n cs) coin (recordOf s) m
+            ≡ stepLast (descent c) (inputAgrees c input) (isLast c here) (take n cs) coin (recordOf s) m
         last-is = unfold descent in refl
 
-    step-ends : (k : Cause) → numberOf k ≡ cause → step (descent c input) cs (recordOf s) m ≡ (refused (numberOf k), ended (recordOf s))
+    step-ends : (k : Cause) → numberOf k ≡ cause → step (descent c) (inputAgrees c input) cs (recordOf s) m ≡ (refused (numberOf k), ended (recordOf s))
     step-ends k e =
         let t = numbered-suc k in
-        step-is ∙ ap (λ (j : ℕ). stepJudge (descent c input) j (take n cs) coin (recordOf s) m) (sym e ∙ t .1)
+        step-is ∙ ap (λ (j : ℕ). stepJudge (descent c) (inputAgrees c input) j (take n cs) coin (recordOf s) m) (sym e ∙ t .1)
         ∙ ap (λ (j : ℕ). (refused j, ended (recordOf s))) (sym (t .1))
 
     pub refused-open : (k : Cause) → numberOf k ≡ cause → (r : Stepped) → verdictOf (r .verdict) ≡ refused (numberOf k)
@@ -199,8 +199,10 @@ module _ (c input cs : List ℕ) (s : Session) (m : List ℕ) where
 
     pub fitting : recordFits c (recordOf s) ≡ true → Fitting c input cs s
     fitting e = record {
-      lists = legal;
-      counted = eqb-true (length cs) (coinCount c) (need-taken (eqb (length cs) (coinCount c)) (allBelow (primeOf c) cs) 0 taken .0);
+      given = record {
+        lists = legal;
+        coins = eqb-true (length cs) (coinCount c) (need-taken (eqb (length cs) (coinCount c)) (allBelow (primeOf c) cs) 0 taken .0);
+      };
       fits = e;
     }
 

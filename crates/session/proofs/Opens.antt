@@ -9,30 +9,34 @@ use Rattle.refusal.specs.declared.Cause.{Cause}
 use Rattle.refusal.proofs.Order.{numbered-suc, refused-first}
 use Rattle.circuit.specs.Circuit.{primeOf}
 use Rattle.circuit.specs.Legal.{listsCause}
+use Rattle.walk.specs.Session.{Record, at}
+use Rattle.protocol.specs.Start.{firstClaim}
+use Rattle.protocol.specs.Rounds.{Place, place}
 use Rattle.protocol.specs.Check.{needCoins}
 use Rattle.protocol.specs.Session.{openCause, openedAt, opens, refuses, openedBy, openAnswer}
 
-refused-by : (cause : Cause) (n y : ℕ) → numberOf cause ≡ n → refuses (numberOf cause) ≡ openedBy n y
-refused-by cause n y e =
+refused-by : (cause : Cause) (n : ℕ) (r : Record Place) → numberOf cause ≡ n → refuses (numberOf cause) ≡ openedBy n r
+refused-by cause n r e =
     let s = numbered-suc cause in
-    ap refuses (s .1) ∙ ap (λ (k : ℕ). openedBy k y) (sym (s .1) ∙ e)
+    ap refuses (s .1) ∙ ap (λ (k : ℕ). openedBy k r) (sym (s .1) ∙ e)
 
 module _ (c input : List ℕ) (y : ℕ) (cs : List ℕ) where
   pub open-lists : (cause : Cause) → numberOf cause ≡ listsCause c input → refuses (numberOf cause) ≡ openAnswer c input y cs
   unfolding openAnswer openCause
-  open-lists cause e = refused-by cause (openCause c input y cs) y (sym (refused-first cause (listsCause c input) _ e))
+  open-lists cause e = refused-by cause (openCause c input y cs) (openedAt c y cs) (sym (refused-first cause (listsCause c input) _ e))
 
   module _ (legal : listsCause c input ≡ 0) where
     pub open-output : primeOf c ≤ y → refuses 13 ≡ openAnswer c input y cs
     unfolding openAnswer openCause
     open-output l = rw (legal, le-ltb y (primeOf c) l) refl
 
-    only-coins : y < primeOf c → openAnswer c input y cs ≡ openedBy (needCoins c cs 0) y
+    only-coins : y < primeOf c → openAnswer c input y cs ≡ openedBy (needCoins c cs 0) (openedAt c y cs)
     unfolding openAnswer openCause
     only-coins l = rw (legal, lt-ltb y (primeOf c) l) refl
 
     pub open-coins : y < primeOf c → (cause : Cause) → numberOf cause ≡ needCoins c cs 0 → refuses (numberOf cause) ≡ openAnswer c input y cs
-    open-coins l cause e = refused-by cause (needCoins c cs 0) y e ∙ sym (only-coins l)
+    open-coins l cause e = refused-by cause (needCoins c cs 0) (openedAt c y cs) e ∙ sym (only-coins l)
 
-    pub open-opens : y < primeOf c → 0 ≡ needCoins c cs 0 → opens (openedAt y) ≡ openAnswer c input y cs
-    open-opens l e = ap (λ (n : ℕ). openedBy n y) e ∙ sym (only-coins l)
+    pub open-opens : y < primeOf c → 0 ≡ needCoins c cs 0 → opens (at (place 1 0) y) ≡ openAnswer c input y cs
+    unfolding firstClaim
+    open-opens l e = ap (λ (n : ℕ). openedBy n (openedAt c y cs)) e ∙ sym (only-coins l)

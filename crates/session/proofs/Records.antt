@@ -13,12 +13,11 @@ use Rattle.circuit.specs.Circuit.{primeOf, depth, exponents, exponentAt}
 use Rattle.circuit.specs.Sized.{LayerOf, LegalCircuit}
 use Rattle.circuit.proofs.Loading.{split-true, legal-lists}
 use Rattle.circuit.proofs.Sized.{deep}
-use Rattle.walk.specs.Session.{accepted, goOn, refused, Record, ended, stepFinal}
+use Rattle.walk.specs.Session.{accepted, goOn, refused, Record, at, ended, stepFinal}
 use Rattle.protocol.specs.Rounds.{Place, place, isLine, isLast}
-use Rattle.protocol.specs.Judge.{inputAgrees, descent}
+use Rattle.protocol.specs.Judge.{inputAgrees}
 use Rattle.protocol.specs.Session.{recordFits}
-use Rattle.judgement.specs.Finished.{Finished}
-use Rattle.session.specs.Answers.{recordOf, openAt, verdictOf, Fitting, goesOn, GoesOn}
+use Rattle.session.specs.Answers.{recordOf, verdictOf, Fitting, goesOn, GoesOn}
 use Rattle.session.specs.declared.Session.{Session}
 use Rattle.session.specs.declared.Stepped.{Stepped}
 use Rattle.standing.specs.Standing.{LayerSoFar}
@@ -91,7 +90,7 @@ module _ (c : List ℕ) (h : LegalCircuit c) (s : Record Place) where
 -- AFTER A MESSAGE THAT PASSED
 module _ (c input cs : List ℕ) (s : Session) (h : Fitting c input cs s) where
   pub legal : LegalCircuit c
-  legal = legal-lists c input (h .lists) .circuit
+  legal = legal-lists c input (h .given .lists) .circuit
 
   pub own : Fit c legal (recordOf s)
   own = fit c legal (recordOf s) (h .fits)
@@ -111,9 +110,6 @@ module _ (c input cs : List ℕ) (s : Session) (h : Fitting c input cs s) where
   pub small-layer : s .layer ≤ 16
   small-layer = let low = legal .sized .headed .shallow in let inside = own .inside in omega arith
 
-  pub finished : Finished c input cs
-  finished = record { lists = h .lists; counted = h .counted }
-
   at-end : ¬ (s .layer < depth c) → s .layer ≡ length (exponents c)
   at-end ne = let inside = own .inside in omega (arith, ne, deep c legal)
 
@@ -126,19 +122,19 @@ module _ (c input cs : List ℕ) (s : Session) (h : Fitting c input cs s) where
     }
 
     pub goes-round : isLine c (place (s .layer) (s .round)) ≡ false → (r : Stepped) → verdictOf (r .verdict) ≡ goOn coin
-        → recordOf (r .session) ≡ openAt (place (s .layer) (s .round + 1)) y → GoesOn c input cs s coin y r
+        → recordOf (r .session) ≡ at (place (s .layer) (s .round + 1)) y → GoesOn c input cs s coin y r
     goes-round e r answer after =
         goes false (ap (λ (b : Bool). b && eqb (s .layer) (length (exponents c))) e) r answer
-        (after ∙ ap (λ (j : ℕ). openAt (place (s .layer) j) y) (add-one (s .round))
-        ∙ ap (λ (b : Bool). openAt (cond b (place (suc (s .layer)) 0) (place (s .layer) (suc (s .round)))) y) (sym e))
+        (after ∙ ap (λ (j : ℕ). at (place (s .layer) j) y) (add-one (s .round))
+        ∙ ap (λ (b : Bool). at (cond b (place (suc (s .layer)) 0) (place (s .layer) (suc (s .round)))) y) (sym e))
 
     pub goes-layer : isLine c (place (s .layer) (s .round)) ≡ true → s .layer < depth c → (r : Stepped) → verdictOf (r .verdict) ≡ goOn coin
-        → recordOf (r .session) ≡ openAt (place (s .layer + 1) 0) y → GoesOn c input cs s coin y r
+        → recordOf (r .session) ≡ at (place (s .layer + 1) 0) y → GoesOn c input cs s coin y r
     goes-layer e more r answer after =
         let ne : ¬ (s .layer ≡ length (exponents c)) = λ (q : s .layer ≡ length (exponents c)). omega (arith, q, more, deep c legal) in
         goes false (ap (λ (b : Bool). b && eqb (s .layer) (length (exponents c))) e ∙ ne-eqb (s .layer) (length (exponents c)) ne) r answer
-        (after ∙ ap (λ (i : ℕ). openAt (place i 0) y) (add-one (s .layer))
-        ∙ ap (λ (b : Bool). openAt (cond b (place (suc (s .layer)) 0) (place (s .layer) (suc (s .round)))) y) (sym e))
+        (after ∙ ap (λ (i : ℕ). at (place i 0) y) (add-one (s .layer))
+        ∙ ap (λ (b : Bool). at (cond b (place (suc (s .layer)) 0) (place (s .layer) (suc (s .round)))) y) (sym e))
 
     module _ (e : isLine c (place (s .layer) (s .round)) ≡ true) (ne : ¬ (s .layer < depth c)) (r : Stepped) (after : recordOf (r .session) ≡ ended (recordOf s)) where
       is-last : isLast c (place (s .layer) (s .round)) ≡ true
@@ -146,10 +142,10 @@ module _ (c input cs : List ℕ) (s : Session) (h : Fitting c input cs s) where
 
       pub goes-accepted : inputAgrees c input cs y ≡ true → verdictOf (r .verdict) ≡ accepted → GoesOn c input cs s coin y r
       goes-accepted a answer =
-          goes true is-last r (answer ∙ ap (λ (b : Bool). stepFinal (descent c input) b (recordOf s) .0) (sym a))
-          (after ∙ ap (λ (b : Bool). stepFinal (descent c input) b (recordOf s) .1) (sym a))
+          goes true is-last r (answer ∙ ap (λ (b : Bool). stepFinal b (recordOf s) .0) (sym a))
+          (after ∙ ap (λ (b : Bool). stepFinal b (recordOf s) .1) (sym a))
 
       pub goes-refused : inputAgrees c input cs y ≡ false → verdictOf (r .verdict) ≡ refused 18 → GoesOn c input cs s coin y r
       goes-refused a answer =
-          goes true is-last r (answer ∙ ap (λ (b : Bool). stepFinal (descent c input) b (recordOf s) .0) (sym a))
-          (after ∙ ap (λ (b : Bool). stepFinal (descent c input) b (recordOf s) .1) (sym a))
+          goes true is-last r (answer ∙ ap (λ (b : Bool). stepFinal b (recordOf s) .0) (sym a))
+          (after ∙ ap (λ (b : Bool). stepFinal b (recordOf s) .1) (sym a))

@@ -5,10 +5,10 @@ use refusal::Checked;
 ghost use mathlib.Core.Path.{_≡_};
 ghost use Rattle.refusal.specs.Number.{numberOf};
 ghost use Rattle.circuit.specs.Sized.{LegalCircuit};
-ghost use Rattle.walk.specs.Session.{goOn, refused, ended};
+ghost use Rattle.walk.specs.Session.{goOn, refused, at, ended};
 ghost use Rattle.protocol.specs.Session.{openAnswer, recordFits};
 ghost use Rattle.protocol.specs.Rounds.{place};
-ghost use Rattle.session.specs.Answers.{recordOf, openAt, openingOf, verdictOf, Fitting, GoesOn, StepsOpen, Steps};
+ghost use Rattle.session.specs.Answers.{recordOf, openingOf, verdictOf, Fitting, GoesOn, StepsOpen, Steps};
 
 // What a step answers.
 pub enum Verdict {
@@ -104,7 +104,7 @@ fn ended(session: Session) -> Session
 
 // A step to the next round, with the coin that it hands out.
 fn went_on(layer: u32, round: u32, coin: u32, claim: u32) -> Stepped
-    ensures { λ r. ⌜ (verdictOf (r .verdict) ≡ goOn coin) × (recordOf (r .session) ≡ openAt (place layer round) claim) ⌝ }
+    ensures { λ r. ⌜ (verdictOf (r .verdict) ≡ goOn coin) × (recordOf (r .session) ≡ at (place layer round) claim) ⌝ }
 {
     Stepped {
         verdict: Verdict::GoOn(coin),

@@ -4,16 +4,16 @@ use Prim.Native.Nat.{ℕ, zero, suc, _+_, _-_, _*_, _≤_, _<_}
 use mathlib.Core.Path.{_≡_, refl, sym, ap, _∙_}
 use mathlib.Core.Bool.{true, false}
 use mathlib.Core.List.{List}
-use native.Mathlib.Nat.{le-refl, le-trans, le-of-lt, mul-le-mul}
+use native.Mathlib.Nat.{zero-add, le-refl, le-trans, le-of-lt, mul-le-mul}
 use native.Mathlib.Omega.{arith}
 use lib.ListN.{length, take}
 use lib.Seq.{take-all}
 use borrow.Author.Tests.{eq-eqb, ne-eqb}
 use Rattle.lists.proofs.Count.{sum-nil, sum-take}
-use Rattle.circuit.specs.Circuit.{primeOf, depth, exponents, exponentAt, coinCount, messageWords}
+use Rattle.circuit.specs.Circuit.{primeOf, depth, outputExponent, exponents, exponentAt, coinCount, messageWords}
 use Rattle.circuit.specs.Legal.{allBelow}
 use Rattle.circuit.specs.Sized.{LayerOf, LegalCircuit}
-use Rattle.circuit.proofs.Sized.{deep}
+use Rattle.circuit.proofs.Sized.{one-output, deep}
 use Rattle.protocol.specs.Rounds.{layerStart}
 use Rattle.protocol.specs.Check.{needCoins}
 use Rattle.protocol.proofs.Points.{start-next}
@@ -27,44 +27,45 @@ layer-of c h i n = record { headed = h .sized .headed; inside = n }
 pub times-small : (a k : ℕ) → a ≤ 7 → k < 4294967296 → a * k ≤ 30064771072
 times-small a k h l = le-trans (mul-le-mul h (le-of-lt l)) (le-refl 30064771072)
 
-module _ (c : List ℕ) (a : ℕ) where
-  pub sum-first : 0 ≡ layerSum a (take (1 - 1) (exponents c))
-  sum-first = sym sum-nil
+module _ (c : List ℕ) (first a : ℕ) where
+  abbrev so : ℕ → ℕ
+  so i = first + layerSum a (take i (exponents c))
 
-  pub sum-turn : (i total k : ℕ) → LegalCircuit c → 1 ≤ i → i ≤ depth c → total ≡ layerSum a (take (i - 1) (exponents c)) → k ≡ exponentAt c i
-      → total + (a * k + 1) ≡ layerSum a (take (i + 1 - 1) (exponents c))
+  pub sum-first : first ≡ so (1 - 1)
+  sum-first = omega (arith, sum-nil)
+
+  pub sum-turn : (i total k : ℕ) → LegalCircuit c → 1 ≤ i → i ≤ depth c → total ≡ so (i - 1) → k ≡ exponentAt c i → total + (a * k + 1) ≡ so (i + 1 - 1)
   sum-turn zero total k h low n e ek = absurd (omega arith)
   sum-turn (suc l) total k h low n e ek =
       let there : suc l - 1 ≡ l = omega arith in
       let next : suc l + 1 - 1 ≡ suc l = omega arith in
+      let more = sum-take (λ k. a * k + 1) (exponents c) 0 l (omega (arith, deep c h)) in
       ap (λ (m : ℕ). total + (a * m + 1)) ek
-      ∙ ap (λ (m : ℕ). m + (a * exponentAt c (suc l) + 1)) (e ∙ ap (λ (m : ℕ). layerSum a (take m (exponents c))) there)
-      ∙ sym (sum-take (λ k. a * k + 1) (exponents c) 0 l (omega (arith, deep c h)))
-      ∙ ap (λ (m : ℕ). layerSum a (take m (exponents c))) (sym next)
+      ∙ ap (λ (m : ℕ). m + (a * exponentAt c (suc l) + 1)) (e ∙ ap so there) ∙ omega (arith, more) ∙ ap so (sym next)
 
-  pub sum-all : LegalCircuit c → layerSum a (take (depth c + 1 - 1) (exponents c)) ≡ layerSum a (exponents c)
-  sum-all h = ap (layerSum a) (take-all (depth c + 1 - 1) (exponents c) (omega (arith, deep c h)))
+  pub sum-all : LegalCircuit c → so (depth c + 1 - 1) ≡ first + layerSum a (exponents c)
+  sum-all h = ap (λ (ks : List ℕ). first + layerSum a ks) (take-all (depth c + 1 - 1) (exponents c) (omega (arith, deep c h)))
 
 module _ (c : List ℕ) where
   pub so-far : LegalCircuit c → LayerSoFar c (depth c + 1)
   so-far h = record { legal = h; first = omega arith; last = omega arith }
 
-  pub sum-start : (layer : ℕ) → LayerSoFar c layer → layerSum 2 (take (layer - 1) (exponents c)) ≡ layerStart c layer
+  pub sum-start : (layer : ℕ) → LayerSoFar c layer → outputExponent c + layerSum 2 (take (layer - 1) (exponents c)) ≡ layerStart c layer
   sum-start zero h = absurd (let low : 1 ≤ 0 = h .first in omega arith)
-  sum-start (suc l) h = let e : suc l - 1 ≡ l = omega arith in ap (λ (m : ℕ). layerSum 2 (take m (exponents c))) e
+  sum-start (suc l) h = let e : suc l - 1 ≡ l = omega arith in ap (λ (m : ℕ). outputExponent c + layerSum 2 (take m (exponents c))) e
 
-  pub sum-coins : layerSum 2 (exponents c) ≡ coinCount c
+  pub sum-coins : outputExponent c + layerSum 2 (exponents c) ≡ coinCount c
   unfolding coinCount
   sum-coins = refl
 
-  pub sum-words : layerSum 7 (exponents c) ≡ messageWords c
+  pub sum-words : 0 + layerSum 7 (exponents c) ≡ messageWords c
   unfolding messageWords
-  sum-words = refl
+  sum-words = zero-add (layerSum 7 (exponents c))
 
   -- at most 17 coins a layer
   pub start-few : LegalCircuit c → (i : ℕ) → i ≤ depth c → layerStart c i ≤ 17 * i
   start-few h zero n = omega arith
-  start-few h (suc zero) n = omega (arith, sum-nil)
+  start-few h (suc zero) n = omega (arith, sum-nil, one-output c)
   start-few h (suc (suc l)) n =
       let next : layerStart c (suc (suc l)) ≡ layerStart c (suc l) + 2 * exponentAt c (suc l) + 1 = start-next c l (omega (arith, deep c h)) in
       let small = exponent-small c (suc l) (layer-of c h (suc l) (omega arith)) in

@@ -11,7 +11,7 @@ use lib.Seq.{drop-drop, getD-take, getD-drop}
 use Rattle.circuit.specs.Limits.{maxExponent}
 use Rattle.circuit.specs.Circuit.{depth, exponents, exponentAt, outputExponent, widthOf, gatesOf, layersOf, gateCount, gatesStart, gateLayers, gatesAt, wordCount}
 use Rattle.circuit.specs.Sized.{LayerOf, LegalCircuit}
-use Rattle.circuit.proofs.Sized.{deep, width-of, layer-small, layer-word}
+use Rattle.circuit.proofs.Sized.{one-output, deep, width-of, layer-small, layer-word}
 use Rattle.standing.specs.Standing.{gatesFrom}
 
 -- a layer's exponent is a word of the list, where there is such a layer
@@ -24,12 +24,12 @@ exponent-there c (suc l) ne h =
 
 pub exponent-past : (c : List ℕ) (layer : ℕ) → depth c < layer → 0 ≡ exponentAt c layer
 unfolding exponents
-exponent-past c zero h = refl
+exponent-past c zero h = absurd (omega arith)
 exponent-past c (suc l) h = sym (List·getD-eq-default (take (depth c) (drop 2 c)) 0 (omega (arith, length-take (depth c) (drop 2 c))))
 
 -- at most 8
 pub exponent-small : (c : List ℕ) (layer : ℕ) → LayerOf c layer → exponentAt c layer ≤ maxExponent
-exponent-small c zero h = omega arith
+exponent-small c zero h = omega (arith, one-output c)
 exponent-small c (suc l) h =
     subst (λ (k : ℕ). k ≤ maxExponent) (layer-word c (suc l) h (omega arith)) (layer-small c (suc l) h (omega arith))
 
@@ -64,35 +64,35 @@ module _ (c : List ℕ) (h : LegalCircuit c) where
   pub gates-at : (l : ℕ) → l < depth c → gatesOf (2 ^ exponentAt c l) (drop (gatesFrom c l) c) ≡ gatesAt c l
   unfolding gatesAt gateLayers gatesFrom
   gates-at l n =
-      sym (layer-of outputExponent (exponents c) (drop (gatesStart c) c) l (omega (arith, deep c h))
-      ∙ ap (gatesOf (2 ^ exponentAt c l)) (drop-drop (3 * gateCount outputExponent (take l (exponents c))) (gatesStart c) c))
+      sym (layer-of (outputExponent c) (exponents c) (drop (gatesStart c) c) l (omega (arith, deep c h))
+      ∙ ap (gatesOf (2 ^ exponentAt c l)) (drop-drop (3 * gateCount (outputExponent c) (take l (exponents c))) (gatesStart c) c))
 
   -- they are inside the list
   pub gates-room : (l : ℕ) → l < depth c → gatesFrom c l + 3 * 2 ^ exponentAt c l ≤ length c
   unfolding gatesFrom wordCount
   gates-room l n =
       let whole : length c ≡ wordCount c = h .sized .counted in
-      let part = count-part outputExponent (exponents c) (suc l) in
-      omega (arith, whole, part, count-more outputExponent (exponents c) l (omega (arith, deep c h)))
+      let part = count-part (outputExponent c) (exponents c) (suc l) in
+      omega (arith, whole, part, count-more (outputExponent c) (exponents c) l (omega (arith, deep c h)))
 
   -- the count so far, in a loop over the layers
-  pub count-turn : (i count k w : ℕ) → i < depth c → count ≡ gateCount outputExponent (take i (exponents c)) → k ≡ exponentAt c i → w ≡ widthOf k
-      → count + w ≡ gateCount outputExponent (take (i + 1) (exponents c))
+  pub count-turn : (i count k w : ℕ) → i < depth c → count ≡ gateCount (outputExponent c) (take i (exponents c)) → k ≡ exponentAt c i → w ≡ widthOf k
+      → count + w ≡ gateCount (outputExponent c) (take (i + 1) (exponents c))
   count-turn i count k w n e ek ew =
       let wide : w ≡ 2 ^ exponentAt c i = ew ∙ ap widthOf ek ∙ exponent-width c i (record { headed = h .sized .headed; inside = omega arith }) in
-      let next : gateCount outputExponent (take (i + 1) (exponents c)) ≡ gateCount outputExponent (take i (exponents c)) + 2 ^ exponentAt c i =
-      ap (λ (j : ℕ). gateCount outputExponent (take j (exponents c))) (add-one i) ∙ count-more outputExponent (exponents c) i (omega (arith, deep c h)) in
+      let next : gateCount (outputExponent c) (take (i + 1) (exponents c)) ≡ gateCount (outputExponent c) (take i (exponents c)) + 2 ^ exponentAt c i =
+      ap (λ (j : ℕ). gateCount (outputExponent c) (take j (exponents c))) (add-one i) ∙ count-more (outputExponent c) (exponents c) i (omega (arith, deep c h)) in
       omega (arith, wide, next, e)
 
   -- one layer's gates end where the next layer's start
   pub gates-next : (l : ℕ) → l < depth c → gatesFrom c (suc l) ≡ gatesFrom c l + 3 * 2 ^ exponentAt c l
   unfolding gatesFrom
-  gates-next l n = let next = count-more outputExponent (exponents c) l (omega (arith, deep c h)) in omega arith
+  gates-next l n = let next = count-more (outputExponent c) (exponents c) l (omega (arith, deep c h)) in omega arith
 
-pub count-none : (c : List ℕ) → 0 ≡ gateCount outputExponent (take 0 (exponents c))
+pub count-none : (c : List ℕ) → 0 ≡ gateCount (outputExponent c) (take 0 (exponents c))
 unfolding gateCount
 count-none c = refl
 
-pub gates-from : (c : List ℕ) (layer count : ℕ) → count ≡ gateCount outputExponent (take layer (exponents c)) → 2 + depth c + 3 * count ≡ gatesFrom c layer
+pub gates-from : (c : List ℕ) (layer count : ℕ) → count ≡ gateCount (outputExponent c) (take layer (exponents c)) → 2 + depth c + 3 * count ≡ gatesFrom c layer
 unfolding gatesFrom
 gates-from c layer count e = ap (λ (n : ℕ). 2 + depth c + 3 * n) e

@@ -9,13 +9,13 @@ use native.Mathlib.Omega.{arith}
 use lib.ListN.{length, take}
 use lib.Seq.{length-take-le}
 use Rattle.lists.proofs.Count.{sum-nil}
-use Rattle.circuit.specs.Circuit.{depth, exponentAt}
+use Rattle.circuit.specs.Circuit.{depth, outputExponent, exponentAt}
 use Rattle.circuit.specs.Sized.{LegalCircuit}
 use Rattle.circuit.proofs.Sized.{deep}
-use Rattle.protocol.specs.Rounds.{Place, place, rounds, layerStart}
+use Rattle.protocol.specs.Rounds.{Place, place, rounds, layerStart, AtRound}
+use Rattle.standing.specs.Standing.{LayerSoFar}
 use Rattle.protocol.proofs.Points.{start-next}
 use Rattle.protocol.proofs.Places.{before-layer, before-round, layer-opens, round-opens, layer-closes, none-left}
-use Rattle.standing.specs.Standing.{AtRound}
 
 module _ (c : List ℕ) where
   -- before a layer, or behind the last, with n coins before it: P holds of the rounds left
@@ -34,8 +34,17 @@ module _ (c : List ℕ) where
     pub left : P (before-round c layer round) n
 
   module _ (legal : LegalCircuit c) (P : List Place → ℕ → Type 0) where
-    pub loops-start : P (rounds c) 0 → BeforeLayer P 1 0
-    loops-start p = record { first = omega arith; last = omega arith; counted = sym sum-nil; left = p }
+    pub loops-start : (n : ℕ) → n ≡ layerStart c 1 → P (rounds c) (outputExponent c) → BeforeLayer P 1 n
+    loops-start n e p = record {
+      first = omega arith;
+      last = omega arith;
+      counted = e;
+      left = subst (P (rounds c)) (omega (arith, e, sum-nil)) p;
+    }
+
+    -- the layer that a walk starts at
+    pub first-layer : LayerSoFar c 1
+    first-layer = record { legal = legal; first = omega arith; last = omega arith }
 
     pub loops-end : (layer n : ℕ) → BeforeLayer P layer n → depth c < layer → P [] n
     loops-end zero n b out = absurd (omega arith)
@@ -76,7 +85,7 @@ module _ (c : List ℕ) where
       pub round-next : (Q : List Place → ℕ → Type 0) → Q (before-round c layer (round + 1)) (n + 1) → BeforeRound Q layer (round + 1) (n + 1)
       round-next Q q = record { first = b .first; last = b .last; reached = omega arith; counted = omega (arith, b .counted); left = q }
 
-      pub round-place : (cs : List ℕ) → n ≤ length cs → AtRound c layer round (take n cs)
+      pub round-place : (cs : List ℕ) → n ≤ length cs → AtRound c (place layer round) (length (take n cs))
       round-place cs there = record {
         legal = legal;
         first = b .first;

@@ -7,15 +7,17 @@ use native.Mathlib.Decide.{decLt}
 use native.Mathlib.Omega.{arith}
 use lib.ListN.{length, length-drop, length-take, take, drop, getD, drop-of-length-le}
 use lib.Seq.{take-all, drop-drop, getD-drop, length-take-le}
+use Rattle.lists.proofs.Count.{sum-nil}
 use Rattle.algebra.specs.Numbers.{words}
 use Rattle.circuit.specs.Limits.{maxExponent}
-use Rattle.circuit.specs.Circuit.{primeOf, depth, exponentAt}
+use Rattle.circuit.specs.Circuit.{primeOf, depth, outputExponent, exponentAt}
 use Rattle.circuit.specs.Sized.{LayerOf}
-use Rattle.circuit.proofs.Sized.{deep}
+use Rattle.circuit.proofs.Sized.{one-output, deep}
 use Rattle.sumcheck.specs.Summand.{linePoint}
 use Rattle.sumcheck.proofs.Message.{length-line}
 use Rattle.sumcheck.proofs.Words.{line-point-length}
 use Rattle.summand.proofs.Line.{take-line}
+use Rattle.protocol.specs.Start.{firstPoint}
 use Rattle.protocol.specs.Rounds.{layerStart}
 use Rattle.protocol.specs.Judge.{lineEnd, pointAt}
 use Rattle.protocol.proofs.Points.{start-next}
@@ -23,12 +25,12 @@ use Rattle.standing.specs.Standing.{AtLayer, Row}
 use Rattle.standing.proofs.Gates.{exponent-small}
 
 -- the layer above, a layer of the circuit
-pub layer-above : (c : List ℕ) (layer : ℕ) (past : List ℕ) → AtLayer c layer past → LayerOf c (layer - 1)
+pub layer-above : (c : List ℕ) (layer : ℕ) (past : List ℕ) → AtLayer c layer (length past) → LayerOf c (layer - 1)
 layer-above c layer past h =
     let low : layer ≤ 1 + depth c = h .last in
     record { headed = h .legal .sized .headed; inside = omega arith }
 
-module _ (c : List ℕ) (l : ℕ) (past : List ℕ) (h : AtLayer c (suc (suc l)) past) where
+module _ (c : List ℕ) (l : ℕ) (past : List ℕ) (h : AtLayer c (suc (suc l)) (length past)) where
   -- the layer above: its coins are the last 2k + 1
   above-coins : length past ≡ layerStart c (suc l) + 2 * exponentAt c (suc l) + 1
   above-coins =
@@ -91,7 +93,7 @@ row-whole l r h row = subst (λ (m : List ℕ). Row m r) (take-all maxExponent l
 
 -- the same, of a layer that is not the first
 module _ (c : List ℕ) (past : List ℕ) where
-  standing-coins : (layer : ℕ) → AtLayer c layer past → 2 ≤ layer → length past ≡ layerStart c (layer - 1) + 2 * exponentAt c (layer - 1) + 1
+  standing-coins : (layer : ℕ) → AtLayer c layer (length past) → 2 ≤ layer → length past ≡ layerStart c (layer - 1) + 2 * exponentAt c (layer - 1) + 1
   standing-coins zero h ne = absurd (let low : 1 ≤ 0 = h .first in omega arith)
   standing-coins (suc zero) h ne = absurd (omega arith)
   standing-coins (suc (suc l)) h ne =
@@ -102,7 +104,7 @@ module _ (c : List ℕ) (past : List ℕ) where
     pub enough : 2 * k + 1 ≤ length past
     pub small : k ≤ maxExponent
 
-  pub standing-sizes : (layer k : ℕ) → AtLayer c layer past → 2 ≤ layer → k ≡ exponentAt c (layer - 1) → Sizes k
+  pub standing-sizes : (layer k : ℕ) → AtLayer c layer (length past) → 2 ≤ layer → k ≡ exponentAt c (layer - 1) → Sizes k
   standing-sizes layer k h ne ek =
       let low = exponent-small c (layer - 1) (layer-above c layer past h) in
       record { enough = omega (arith, ek, standing-coins layer h ne); small = omega (arith, ek, low) }
@@ -110,7 +112,7 @@ module _ (c : List ℕ) (past : List ℕ) where
   short : (n : ℕ) (l : List ℕ) → n ≤ maxExponent → length (take n l) ≤ maxExponent
   short n l h = omega (arith, length-take n l)
 
-  pub standing-row : (layer k u v t : ℕ) (first second r : List ℕ) → AtLayer c layer past → 2 ≤ layer
+  pub standing-row : (layer k u v t : ℕ) (first second r : List ℕ) → AtLayer c layer (length past) → 2 ≤ layer
       → k ≡ exponentAt c (layer - 1) → t ≡ length past - 1 → v ≡ t - k → u ≡ v - k
       → Row (take maxExponent (take (v - u) (drop u past))) first → Row (take maxExponent (take (t - v) (drop v past))) second
       → r ≡ linePoint (words (primeOf c)) first second (getD past t 0) → Row (pointAt c layer past) r
@@ -123,16 +125,24 @@ module _ (c : List ℕ) (past : List ℕ) where
       (row-whole (take (v - u) (drop u past)) first (short (v - u) (drop u past) (omega arith)) row₁)
       (row-whole (take (t - v) (drop v past)) second (short (t - v) (drop v past) (omega arith)) row₂)
 
-  pub point-length : (layer : ℕ) → AtLayer c layer past → length (pointAt c layer past) ≡ exponentAt c (layer - 1)
+  first-length : AtLayer c 1 (length past) → length (pointAt c 1 past) ≡ exponentAt c 0
+  first-length h = length-take-le (outputExponent c) past (omega (arith, h .counted, sum-nil))
+
+  pub point-length : (layer : ℕ) → AtLayer c layer (length past) → length (pointAt c layer past) ≡ exponentAt c (layer - 1)
   point-length zero h = absurd (let low : 1 ≤ 0 = h .first in omega arith)
-  point-length (suc zero) h = let e : suc zero - 1 ≡ 0 = omega arith in rw e refl
+  point-length (suc zero) h = let e : suc zero - 1 ≡ 0 = omega arith in first-length h ∙ ap (exponentAt c) (sym e)
   point-length (suc (suc l)) h = let e : suc (suc l) - 1 ≡ suc l = omega arith in above-length c l past h ∙ ap (exponentAt c) (sym e)
 
-  pub first-row : (layer : ℕ) (r : List ℕ) → AtLayer c layer past → layer < 2 → length r ≡ maxExponent → Row (pointAt c layer past) r
-  first-row layer r h low n =
+  -- at layer 1 the coins so far are the first point
+  pub first-row : (layer : ℕ) (r : List ℕ) → AtLayer c layer (length past) → layer < 2 → Row (take maxExponent past) r → Row (pointAt c layer past) r
+  first-row layer r h low row =
       let some : 1 ≤ layer = h .first in
       let e : 1 ≡ layer = omega arith in
-      subst (λ (i : ℕ). Row (pointAt c i past) r) e (record { size = n; holds = refl })
+      let counted : length past ≡ layerStart c layer = h .counted in
+      let few : length past ≡ outputExponent c = counted ∙ ap (layerStart c) (sym e) ∙ omega (arith, sum-nil) in
+      let whole : past ≡ firstPoint c past = sym (take-all (outputExponent c) past (omega arith)) in
+      subst (λ (i : ℕ). Row (pointAt c i past) r) e
+      (subst (λ (l : List ℕ). Row l r) whole (row-whole past r (omega (arith, few, one-output c)) row))
 
 -- the lesser of a list's length and k takes as many words as k
 pub least-front : (k : ℕ) (l : List ℕ) (r : ℕ) → r ≡ min (length l) k → take r l ≡ take k l

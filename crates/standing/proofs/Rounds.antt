@@ -12,10 +12,10 @@ use Rattle.circuit.specs.Sized.{LayerOf, LegalCircuit}
 use Rattle.circuit.proofs.Legal.{gates-part}
 use Rattle.circuit.proofs.Sized.{deep}
 use Rattle.summand.specs.Gates.{gatesIn}
-use Rattle.protocol.specs.Rounds.{layerStart}
+use Rattle.protocol.specs.Rounds.{place, layerStart, AtRound}
 use Rattle.protocol.specs.Judge.{fixed, pointAt, gatesAbove}
 use Rattle.protocol.proofs.Points.{point-more}
-use Rattle.standing.specs.Standing.{AtLayer, AtRound, Row, Within, Stands, gatesFrom}
+use Rattle.standing.specs.Standing.{AtLayer, Row, Within, Stands, gatesFrom}
 use Rattle.standing.specs.declared.Stand.{Stand}
 use Rattle.standing.proofs.Gates.{exponent-small, gates-at, gates-next, gates-room}
 use Rattle.standing.proofs.Points.{least-front, least-rest, row-whole, point-length}
@@ -46,7 +46,7 @@ nothing-within c s none = record {
   inside = omega (arith, none .3);
 }
 
-module _ (c : List ℕ) (layer round : ℕ) (past : List ℕ) (h : AtRound c layer round past) where
+module _ (c : List ℕ) (layer round : ℕ) (past : List ℕ) (h : AtRound c (place layer round) (length past)) where
   pub own-layer : LayerOf c layer
   own-layer = record { headed = h .legal .sized .headed; inside = h .last }
 
@@ -68,7 +68,7 @@ module _ (c : List ℕ) (layer round : ℕ) (past : List ℕ) (h : AtRound c lay
       let size : length (take s past) ≡ s = length-take-le s past (omega (arith, h .counted)) in
       sym (point-more c layer (take s past) (drop s past) inside (omega (arith, size))) ∙ ap (pointAt c layer) (take-append-drop s past)
 
-  pub at-layer : (start : ℕ) → start ≡ layerStart c layer → AtLayer c layer (take start past)
+  pub at-layer : (start : ℕ) → start ≡ layerStart c layer → AtLayer c layer (length (take start past))
   at-layer start e =
       let low : layer ≤ depth c = h .last in
       record {
@@ -97,7 +97,7 @@ module _ (c : List ℕ) (layer round : ℕ) (past : List ℕ) (h : AtRound c lay
     pub stands : s .own ≡ min (exponentAt c layer) maxExponent → s .above ≡ min (exponentAt c (layer - 1)) maxExponent
         → s .from ≡ min (gatesFrom c (layer - 1)) (s .to) → s .to ≡ min (gatesFrom c layer) (length c)
         → Row (take maxExponent (take (start + first - start) (drop start past))) (s .u) → Row (take maxExponent (drop (start + first) past)) (s .v)
-        → (AtLayer c layer (take start past) → Row (pointAt c layer (take start past)) (s .point)) → Stands c layer past s
+        → (AtLayer c layer (length (take start past)) → Row (pointAt c layer (take start past)) (s .point)) → Stands c layer past s
     stands cut-own cut-above cut-from cut-to row₁ row₂ point =
         let low : layer ≤ depth c = h .last in
         let some : 1 ≤ layer = h .first in

@@ -13,29 +13,21 @@ use Rattle.protocol.specs.Rounds.{layerStart}
 use Rattle.protocol.specs.Judge.{fixed, pointAt, gatesAbove}
 use Rattle.standing.specs.declared.Stand.{Stand}
 
--- a layer that a claim can stand at, after the coins before it; D + 1 is behind the last
-pub record AtLayer (c : List ℕ) (layer : ℕ) (past : List ℕ) : Type 0 where
+-- a layer that a claim can stand at, after n coins, those before it; D + 1 is behind the last
+pub record AtLayer (c : List ℕ) (layer n : ℕ) : Type 0 where
   pub legal : LegalCircuit c
   pub first : 1 ≤ layer
   pub last : layer ≤ 1 + depth c
-  pub counted : length past ≡ layerStart c layer
-
--- a round of a layer, after the coins before it
-pub record AtRound (c : List ℕ) (layer round : ℕ) (past : List ℕ) : Type 0 where
-  pub legal : LegalCircuit c
-  pub first : 1 ≤ layer
-  pub last : layer ≤ depth c
-  pub reached : round ≤ 2 * exponentAt c layer
-  pub counted : length past ≡ layerStart c layer + round
+  pub counted : n ≡ layerStart c layer
 
 -- the gates of the layers before one: not more than a circuit has
 pub record GatesBefore (c : List ℕ) (layer r : ℕ) : Type 0 where
   pub few : r ≤ 256 * maxDepth
-  pub counted : LegalCircuit c → layer ≤ depth c → r ≡ gateCount outputExponent (take layer (exponents c))
+  pub counted : LegalCircuit c → layer ≤ depth c → r ≡ gateCount (outputExponent c) (take layer (exponents c))
 
 -- where the gates of a layer start
 unfoldable pub gatesFrom : List ℕ → ℕ → ℕ
-gatesFrom c layer = gatesStart c + 3 * gateCount outputExponent (take layer (exponents c))
+gatesFrom c layer = gatesStart c + 3 * gateCount (outputExponent c) (take layer (exponents c))
 
 -- a row of eight words with a point's coordinates in front
 pub record Row (point row : List ℕ) : Type 0 where

@@ -7,15 +7,15 @@ use refusal::Cause;
 use refusal::Checked;
 ghost use mathlib.Core.Path.{_≡_};
 ghost use Prim.Native.Nat.{_+_, _-_, _*_, _≤_};
-ghost use lib.ListN.{take};
+ghost use lib.ListN.{length, take};
 ghost use Rattle.refusal.specs.Number.{causeOf};
 ghost use Rattle.circuit.specs.Limits.{maxExponent};
 ghost use Rattle.circuit.specs.Circuit.{depth, exponents, exponentAt, coinCount, messageWords};
 ghost use Rattle.circuit.specs.Sized.{LegalCircuit};
-ghost use Rattle.protocol.specs.Rounds.{place, layerStart, isLine};
+ghost use Rattle.protocol.specs.Rounds.{place, layerStart, isLine, AtRound};
 ghost use Rattle.protocol.specs.Judge.{pointAt, messageLength};
 ghost use Rattle.protocol.specs.Check.{needCoins};
-ghost use Rattle.standing.specs.Standing.{AtLayer, AtRound, gatesFrom, GatesBefore, layerSum, LayerSoFar, Row, Within, Stands};
+ghost use Rattle.standing.specs.Standing.{AtLayer, gatesFrom, GatesBefore, layerSum, LayerSoFar, Row, Within, Stands};
 
 // The width exponent of a layer, 0 for one that the list has not.
 pub fn exponent(circuit: &[u32], layer: usize) -> u32
@@ -47,15 +47,15 @@ pub fn message_length(circuit: &[u32], layer: usize, round: usize) -> usize
     3
 }
 
-// The sum of a × k + 1 over the exponents k of the layers before this one, for a small a.
-fn sum_layers(circuit: &[u32], a: usize, layer: usize) -> usize
+// A first number, and the sum of a × k + 1 over the exponents k of the layers before this one, for a small a.
+fn sum_layers(circuit: &[u32], first: u32, a: usize, layer: usize) -> usize
     requires { ⌜ a ≤ 7 ⌝ }
-    ensures { λ r. ⌜ (LayerSoFar (now (circuit .entry)) layer → r ≡ layerSum a (take (layer - 1) (exponents (now (circuit .entry))))) ⌝ }
+    ensures { λ r. ⌜ (LayerSoFar (now (circuit .entry)) layer → r ≡ first + layerSum a (take (layer - 1) (exponents (now (circuit .entry))))) ⌝ }
 {
     if MAX_DEPTH as usize + 1 < layer {
         return 0;
     }
-    let mut sum = 0;
+    let mut sum = first as usize;
     for i in 1..layer {
         sum += a * exponent(circuit, i) as usize + 1;
     }
@@ -66,21 +66,26 @@ fn sum_layers(circuit: &[u32], a: usize, layer: usize) -> usize
 pub fn coins_before(circuit: &[u32], layer: usize) -> usize
     ensures { λ r. ⌜ (LayerSoFar (now (circuit .entry)) layer → r ≡ layerStart (now (circuit .entry)) layer) ⌝ }
 {
-    sum_layers(circuit, 2, layer)
+    sum_layers(circuit, exponent(circuit, 0), 2, layer)
 }
 
 // The coins of a circuit.
 pub fn coin_count(circuit: &[u32]) -> usize
     ensures { λ r. ⌜ (LegalCircuit (now (circuit .entry)) → r ≡ coinCount (now (circuit .entry))) ⌝ }
 {
-    sum_layers(circuit, 2, lists::word(circuit, 1) as usize + 1)
+    sum_layers(
+        circuit,
+        exponent(circuit, 0),
+        2,
+        lists::word(circuit, 1) as usize + 1,
+    )
 }
 
 // The words of all its messages.
 pub fn message_words(circuit: &[u32]) -> usize
     ensures { λ r. ⌜ (LegalCircuit (now (circuit .entry)) → r ≡ messageWords (now (circuit .entry))) ⌝ }
 {
-    sum_layers(circuit, 7, lists::word(circuit, 1) as usize + 1)
+    sum_layers(circuit, 0, 7, lists::word(circuit, 1) as usize + 1)
 }
 
 // The refusals 11 and 12.
@@ -107,10 +112,10 @@ fn row(coordinates: &[u32]) -> [u32; MAX_COORDINATES]
 
 // The standing point at a layer, from the coins before it: the end of the line of the layer above.
 pub fn standing_point(circuit: &[u32], layer: usize, past: &[u32]) -> [u32; MAX_COORDINATES]
-    ensures { λ r. ⌜ (AtLayer (now (circuit .entry)) layer (now (past .entry)) → Row (pointAt (now (circuit .entry)) layer (now (past .entry))) r) ⌝ }
+    ensures { λ r. ⌜ (AtLayer (now (circuit .entry)) layer (length (now (past .entry))) → Row (pointAt (now (circuit .entry)) layer (now (past .entry))) r) ⌝ }
 {
     if layer < 2 {
-        return [0u32; MAX_COORDINATES];
+        return row(past);
     }
     let k = exponent(circuit, layer - 1) as usize;
     if past.len() < 2 * k + 1 {
@@ -174,7 +179,7 @@ fn nothing() -> Stand
 // What stands at a round, from the coins before it. Whatever the list, the parts that it names are there: the numbers are cut to the list's
 // length and to a row's.
 pub fn at_round(circuit: &[u32], layer: usize, round: usize, past: &[u32]) -> Stand
-    ensures { λ r. ⌜ Within (now (circuit .entry)) r × (AtRound (now (circuit .entry)) layer round (now (past .entry)) → Stands (now (circuit .entry)) layer (now (past .entry)) r) ⌝ }
+    ensures { λ r. ⌜ Within (now (circuit .entry)) r × (AtRound (now (circuit .entry)) (place layer round) (length (now (past .entry))) → Stands (now (circuit .entry)) layer (now (past .entry)) r) ⌝ }
 {
     if layer < 1 {
         return nothing();

@@ -2,30 +2,31 @@
 -- Assumes nothing.
 use Prim.Native.Nat.{ℕ, _+_, _-_, _*_, _≤_, _<_}
 use mathlib.Core.Path.{_≡_, sym, ap, _∙_, subst}
-use mathlib.Core.List.{List, []}
+use mathlib.Core.List.{List}
 use native.Mathlib.Omega.{arith}
 use lib.ListN.{length, take, drop, getD}
 use Rattle.refusal.specs.Number.{numberOf}
 use Rattle.refusal.specs.declared.Cause.{Cause}
 use Rattle.refusal.proofs.Order.{numbered-suc}
-use Rattle.circuit.specs.Circuit.{depth, exponentAt}
+use Rattle.circuit.specs.Circuit.{depth, outputExponent, exponentAt}
 use Rattle.circuit.specs.Sized.{LegalCircuit}
 use Rattle.circuit.proofs.Loading.{legal-lists}
-use Rattle.walk.specs.Game.{finalCause, walk}
+use Rattle.walk.specs.Game.{finalCause}
 use Rattle.walk.proofs.Loop.{Left, left-all, left-coin, left-words, left-next, left-refused, left-none}
-use Rattle.protocol.specs.Rounds.{Place, place, rounds}
+use Rattle.protocol.specs.Rounds.{Place, place, rounds, layerStart, AtRound}
 use Rattle.protocol.specs.Judge.{messageAt, messageLength, judge, inputAgrees, descent}
+use Rattle.protocol.specs.Check.{walkFrom}
 use Rattle.protocol.proofs.Rounds.{as-many}
 use Rattle.protocol.proofs.Sums.{message-words}
 use Rattle.protocol.proofs.Places.{before-round}
-use Rattle.standing.specs.Standing.{AtRound}
+use Rattle.standing.specs.Standing.{LayerSoFar}
 use Rattle.standing.proofs.Loops as loops
-use Rattle.verifier.specs.Answers.{Counted}
+use Rattle.verifier.specs.Answers.{Walkable}
 
 module _ (c input : List ℕ) (y : ℕ) (ms cs : List ℕ) where
   -- what is left, after `at` message words and with this claim
   abbrev LeftAt : ℕ → ℕ → List Place → ℕ → Type 0
-  LeftAt at claim rest n = Left (descent c input) (rounds c) y ms cs rest n at claim
+  LeftAt at claim rest n = Left (descent c) (inputAgrees c input) (rounds c) (outputExponent c) y ms cs rest n at claim
 
   abbrev pub BeforeLayer : ℕ → ℕ → ℕ → ℕ → Type 0
   BeforeLayer layer n at claim = loops.BeforeLayer c (LeftAt at claim) layer n
@@ -33,14 +34,17 @@ module _ (c input : List ℕ) (y : ℕ) (ms cs : List ℕ) where
   abbrev pub BeforeRound : ℕ → ℕ → ℕ → ℕ → ℕ → Type 0
   BeforeRound layer round n at claim = loops.BeforeRound c (LeftAt at claim) layer round n
 
-  module _ (h : Counted c input cs ms) where
+  module _ (h : Walkable c input cs ms) where
     legal : LegalCircuit c
-    legal = legal-lists c input (h .coins .lists) .circuit
+    legal = legal-lists c input (h .given .lists) .circuit
 
-    pub walk-starts : BeforeLayer 1 0 0 y
+    pub first-layer : LayerSoFar c 1
+    first-layer = loops.first-layer c legal (LeftAt 0 y)
+
+    pub walk-starts : (n : ℕ) → n ≡ layerStart c 1 → BeforeLayer 1 n 0 y
     unfolding descent
-    walk-starts =
-        loops.loops-start c legal (LeftAt 0 y) (left-all (descent c input) (rounds c) y ms cs (h .coins .counted ∙ sym (as-many c)) (h .words ∙ sym (message-words c)))
+    walk-starts n e =
+        loops.loops-start c legal (LeftAt 0 y) n e (left-all (descent c) (inputAgrees c input) (rounds c) (outputExponent c) y ms cs (h .given .coins ∙ sym (as-many c)) (h .words ∙ sym (message-words c)))
 
     pub layer-starts : (layer n at claim : ℕ) → BeforeLayer layer n at claim → layer ≤ depth c → BeforeRound layer 0 n at claim
     layer-starts layer n at claim = loops.layer-starts c legal (LeftAt at claim) layer n
@@ -48,19 +52,19 @@ module _ (c input : List ℕ) (y : ℕ) (ms cs : List ℕ) where
     pub layer-ends : (layer round n at claim : ℕ) → BeforeRound layer round n at claim → 2 * exponentAt c layer + 1 ≤ round → BeforeLayer (layer + 1) n at claim
     layer-ends layer round n at claim = loops.layer-ends c legal (LeftAt at claim) layer round n
 
-    pub walk-ends : (layer n at claim : ℕ) → BeforeLayer layer n at claim → depth c < layer → finalCause (inputAgrees c input cs claim) ≡ walk (descent c input) (rounds c) [] y ms cs
+    pub walk-ends : (layer n at claim : ℕ) → BeforeLayer layer n at claim → depth c < layer → finalCause (inputAgrees c input cs claim) ≡ walkFrom c input y cs ms
     unfolding descent
-    walk-ends layer n at claim b out = left-none (descent c input) (rounds c) y ms cs n at claim (loops.loops-end c legal (LeftAt at claim) layer n b out)
+    walk-ends layer n at claim b out = left-none (descent c) (inputAgrees c input) (rounds c) (outputExponent c) y ms cs n at claim (loops.loops-end c legal (LeftAt at claim) layer n b out)
 
     module _ (layer round n at claim : ℕ) (b : BeforeRound layer round n at claim) (more : round < 2 * exponentAt c layer + 1) where
       pub coin-there : n < length cs
-      coin-there = left-coin (descent c input) (rounds c) y ms cs _ _ n at claim (loops.round-opened c legal (LeftAt at claim) layer round n b more)
+      coin-there = left-coin (descent c) (inputAgrees c input) (rounds c) (outputExponent c) y ms cs _ _ n at claim (loops.round-opened c legal (LeftAt at claim) layer round n b more)
 
       pub words-there : at + messageLength c (place layer round) ≤ length ms
       unfolding descent
-      words-there = left-words (descent c input) (rounds c) y ms cs _ _ n at claim (loops.round-opened c legal (LeftAt at claim) layer round n b more)
+      words-there = left-words (descent c) (inputAgrees c input) (rounds c) (outputExponent c) y ms cs _ _ n at claim (loops.round-opened c legal (LeftAt at claim) layer round n b more)
 
-      pub round-place : AtRound c layer round (take n cs)
+      pub round-place : AtRound c (place layer round) (length (take n cs))
       round-place = loops.round-place c legal (LeftAt at claim) layer round n b more cs (let there = coin-there in omega arith)
 
       module _ (w : ℕ) (ew : w ≡ messageLength c (place layer round)) where
@@ -75,7 +79,7 @@ module _ (c input : List ℕ) (y : ℕ) (ms cs : List ℕ) where
         unfolding descent
         round-passes next e en =
             let on =
-            left-next (descent c input) (rounds c) y ms cs _ _ n at claim (loops.round-opened c legal (LeftAt at claim) layer round n b more)
+            left-next (descent c) (inputAgrees c input) (rounds c) (outputExponent c) y ms cs _ _ n at claim (loops.round-opened c legal (LeftAt at claim) layer round n b more)
             (ap (judge c (place layer round) (take n cs) claim) (sym same-message) ∙ e) in
             let claims : messageAt c (take (messageLength c (place layer round)) (drop at ms)) (getD cs n 0) ≡ next =
             ap (λ (m : List ℕ). messageAt c m (getD cs n 0)) (sym same-message) ∙ sym en in
@@ -84,9 +88,9 @@ module _ (c input : List ℕ) (y : ℕ) (ms cs : List ℕ) where
             (subst (λ (i : ℕ). LeftAt (at + messageLength c (place layer round)) i (before-round c layer (round + 1)) (n + 1)) claims on))
 
         pub round-refuses : (cause : Cause) → numberOf cause ≡ judge c (place layer round) (take n cs) claim message
-            → numberOf cause ≡ walk (descent c input) (rounds c) [] y ms cs
+            → numberOf cause ≡ walkFrom c input y cs ms
         unfolding descent
         round-refuses cause e =
             let s = numbered-suc cause in
-            s .1 ∙ left-refused (descent c input) (rounds c) y ms cs _ _ n at claim (loops.round-opened c legal (LeftAt at claim) layer round n b more) (s .0)
+            s .1 ∙ left-refused (descent c) (inputAgrees c input) (rounds c) (outputExponent c) y ms cs _ _ n at claim (loops.round-opened c legal (LeftAt at claim) layer round n b more) (s .0)
             (ap (judge c (place layer round) (take n cs) claim) (sym same-message) ∙ sym e ∙ s .1)

@@ -6,7 +6,7 @@ use mathlib.Core.List.{List}
 use lib.ListN.{length}
 use Rattle.refusal.specs.Number.{numberOf}
 use Rattle.circuit.specs.Circuit.{messageWords}
-use Rattle.judgement.specs.Finished.{Finished}
+use Rattle.protocol.specs.Check.{Counted}
 use Rattle.verifier.specs.declared.Outcome.{Outcome}
 use Rattle.verifier.specs.declared.Outcome.the-variants as outcome
 
@@ -16,6 +16,6 @@ outcomeOf outcome.Accepted = 0
 outcomeOf (outcome.Refused cause) = numberOf cause
 
 -- all coins and all message words are there: the walk can be made
-pub record Counted (c input cs ms : List ℕ) : Type 0 where
-  pub coins : Finished c input cs
+pub record Walkable (c input cs ms : List ℕ) : Type 0 where
+  pub given : Counted c input cs
   pub words : length ms ≡ messageWords c

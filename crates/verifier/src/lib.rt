@@ -4,13 +4,10 @@ use refusal::Cause;
 use refusal::Checked;
 use session::Opening;
 ghost use mathlib.Core.Path.{_≡_};
-ghost use mathlib.Core.List.{[]};
-ghost use Rattle.judgement.specs.Finished.{Finished};
-ghost use Rattle.walk.specs.Game.{finalCause, walk};
-ghost use Rattle.protocol.specs.Rounds.{rounds};
-ghost use Rattle.protocol.specs.Judge.{inputAgrees, descent};
-ghost use Rattle.protocol.specs.Check.{checkAnswer};
-ghost use Rattle.verifier.specs.Answers.{outcomeOf, Counted};
+ghost use Rattle.walk.specs.Game.{finalCause};
+ghost use Rattle.protocol.specs.Judge.{inputAgrees};
+ghost use Rattle.protocol.specs.Check.{Counted, walkFrom, checkAnswer};
+ghost use Rattle.verifier.specs.Answers.{outcomeOf, Walkable};
 
 // What a whole check answers.
 pub enum Outcome {
@@ -20,7 +17,7 @@ pub enum Outcome {
 
 // The answer after the last message.
 fn finish(circuit: &[u32], input: &[u32], coins: &[u32], claim: u32) -> Outcome
-    requires { ⌜ Finished (now circuit) (now input) (now coins) ⌝ }
+    requires { ⌜ Counted (now circuit) (now input) (now coins) ⌝ }
     ensures { λ r. ⌜ outcomeOf r ≡ finalCause (inputAgrees (now (circuit .entry)) (now (input .entry)) (now (coins .entry)) claim) ⌝ }
 {
     if judgement::input_agrees(circuit, input, coins, claim) {
@@ -29,16 +26,16 @@ fn finish(circuit: &[u32], input: &[u32], coins: &[u32], claim: u32) -> Outcome
     Outcome::Refused(Cause::InputDiffers)
 }
 
-// The walk down the layers, round by round. The first message that earns a refusal stops it.
-fn walk(circuit: &[u32], input: &[u32], output: u32, coins: &[u32], messages: &[u32]) -> Outcome
-    requires { ⌜ Counted (now circuit) (now input) (now coins) (now messages) ⌝ }
-    ensures { λ r. ⌜ outcomeOf r ≡ walk (descent (now (circuit .entry)) (now (input .entry))) (rounds (now (circuit .entry))) [] output (now (messages .entry)) (now (coins .entry)) ⌝ }
+// The walk down the layers from a first claim on, round by round. The first message that earns a refusal stops it.
+fn walk(circuit: &[u32], input: &[u32], first: u32, coins: &[u32], messages: &[u32]) -> Outcome
+    requires { ⌜ Walkable (now circuit) (now input) (now coins) (now messages) ⌝ }
+    ensures { λ r. ⌜ outcomeOf r ≡ walkFrom (now (circuit .entry)) (now (input .entry)) first (now (coins .entry)) (now (messages .entry)) ⌝ }
 {
     let f = Field::of(circuit[0]);
     let depth = circuit[1] as usize;
-    let mut claim = output;
+    let mut claim = first;
     let mut layer = 1;
-    let mut n = 0;
+    let mut n = standing::coins_before(circuit, 1);
     let mut at = 0;
     'walk: loop {
         if depth < layer {
@@ -70,11 +67,13 @@ pub fn check(
     ensures { λ r. ⌜ outcomeOf r ≡ checkAnswer (now (circuit .entry)) (now (input .entry)) output (now (coins .entry)) (now (messages .entry)) ⌝ }
 {
     let opening = session::open(circuit, input, output, coins);
-    if let Opening::Refused(cause) = opening {
-        return Outcome::Refused(cause);
+    match opening {
+        Opening::Refused(cause) => Outcome::Refused(cause),
+        Opening::Opened(opened) => {
+            if messages.len() != standing::message_words(circuit) {
+                return Outcome::Refused(Cause::MessageLength);
+            }
+            walk(circuit, input, opened.claim, coins, messages)
+        }
     }
-    if messages.len() != standing::message_words(circuit) {
-        return Outcome::Refused(Cause::MessageLength);
-    }
-    walk(circuit, input, output, coins, messages)
 }

@@ -5,11 +5,13 @@ use mathlib.Core.Path.{sym, ap, _∙_}
 use native.Mathlib.Omega.{arith}
 use Rattle.circuit.specs.Circuit.{exponentAt}
 use Rattle.circuit.proofs.Sized.{layer-width}
+use Rattle.circuit.specs.Circuit.{outputExponent}
 use borrow.Author.Needs.{needs}
 use Rattle.evaluation.proofs.layer_width.Statement.{statement}
 use Rattle.evaluation.proofs.layer_width.Tie as tie
 
 returns : tie.Need-returns
+unfolding outputExponent
 returns c = ap (λ (j : ℕ). 2 ^ exponentAt (c .before .before .args .circuit .now) j) (sym (c .if1 .taken))
 
 add-width : tie.Need-add-width

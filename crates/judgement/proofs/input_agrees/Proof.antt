@@ -67,7 +67,7 @@ returns c h =
     let point = c .before .before .before .before .before .before .standing-point in
     let deep = c .before .before .before .before .before .before .before .word .ensures in
     let cut = k .ensures ∙ ap (λ (i : ℕ). min i maxExponent) (c .before .before .before .before .before .exponent .ensures ∙ ap (exponentAt l) deep) in
-    let row = subst (λ (i : ℕ). AtLayer l (i + 1) cs → Row (pointAt l (i + 1) cs) (point .result)) deep (point .ensures) (behind-last l v cs h) in
+    let row = subst (λ (i : ℕ). AtLayer l (i + 1) (length cs) → Row (pointAt l (i + 1) cs) (point .result)) deep (point .ensures) (behind-last l v cs h) in
     let f = prime-modulus l (legal l v cs h) _ (c .before .before .of .ensures ∙ ap (λ (p : ℕ). p - 1) (c .before .before .before .word2 .ensures)) in
     agrees l v cs h (k .result) (c .extend .result) (start .args .claim) (point .result) cut row
     (c .extend .ensures ∙ ap (λ (p : ℕ). halving (words p) v (take (k .result) (point .result))) f)

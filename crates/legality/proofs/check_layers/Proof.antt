@@ -7,7 +7,7 @@ use native.Mathlib.Omega.{arith}
 use lib.ListN.{length, drop}
 use Rattle.refusal.specs.Number.{causeOf}
 use Rattle.refusal.proofs.Order.{refused-first, legal-first}
-use Rattle.circuit.specs.Circuit.{exponents, exponentAt, gateCount, layersOf, gateLayers}
+use Rattle.circuit.specs.Circuit.{outputExponent, exponents, exponentAt, gateCount, layersOf, gateLayers}
 use Rattle.circuit.specs.Legal.{layersCause}
 use Rattle.circuit.proofs.Sized.{width-at, count-at, layers-at, layers-end, layer-room, sized-count, layers-start}
 use Rattle.legality.proofs.check_layers.Statement.{statement}
@@ -26,6 +26,7 @@ add-at : tie.Need-add-at Inv-loop μ-loop
 add-at c = search needs
 
 loop-holds : tie.Need-loop-holds Inv-loop μ-loop
+unfolding outputExponent
 loop-holds c =
     let a = c .before .args in
     let h = c .before .pre in

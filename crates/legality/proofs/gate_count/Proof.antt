@@ -16,7 +16,7 @@ abbrev Inv-loop : tie.InvT-loop
 Inv-loop circuit depth total₀ count₀ i₀ total count i =
     (i ≤ depth) × (count ≤ 256) × (total ≤ 256 * i)
     × (Exponents circuit (depthOf circuit) → (count ≡ 2 ^ exponentAt circuit i)
-    × (gateCount outputExponent (exponents circuit) ≡ total + gateCount (exponentAt circuit i) (drop i (exponents circuit))))
+    × (gateCount (outputExponent circuit) (exponents circuit) ≡ total + gateCount (exponentAt circuit i) (drop i (exponents circuit))))
 
 abbrev μ-loop : tie.MeasureT-loop
 μ-loop circuit depth total₀ count₀ i₀ total count i = depth - i
@@ -37,6 +37,7 @@ returns-2 : tie.Need-returns-2 Inv-loop μ-loop
 returns-2 c = search needs
 
 loop-holds : tie.Need-loop-holds Inv-loop μ-loop
+unfolding outputExponent
 loop-holds c = search needs
 
 add-total : tie.Need-add-total Inv-loop μ-loop

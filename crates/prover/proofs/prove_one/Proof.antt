@@ -12,7 +12,7 @@ use Rattle.circuit.specs.Legal.{allBelow, listsCause}
 use Rattle.circuit.specs.Sized.{LegalCircuit}
 use Rattle.circuit.proofs.Loading.{legal-lists, not-true, not-false}
 use Rattle.prover.proofs.Values.{writable}
-use Rattle.prover.proofs.Following.{one-lists, one-count, one-word, at-round, one-short, one-written}
+use Rattle.prover.proofs.Following.{one-lists, one-count, one-word, one-short, one-written}
 use borrow.Author.Needs.{needs}
 use Rattle.prover.proofs.prove_one.Statement.{statement}
 use Rattle.prover.proofs.prove_one.Tie as tie
@@ -116,7 +116,7 @@ returns-5 c =
     one-written _ _ _ _ (none (told e)) (few (e .before .before .before)) (residues e) _ (found .ensures)
     _ _ _ (size .ensures) (at .if3 .left) (values .ensures)
     (c .before .before .write-message .ensures
-    (writable _ _ (none (told e)) _ (values .ensures) _ _ _ _ (at-round _ (legal (told e)) _ _ (found .ensures)) (omega (arith, size .ensures, at .if3 .left))))
+    (writable _ _ (none (told e)) _ (values .ensures) _ _ _ _ (found .ensures) (omega (arith, size .ensures, at .if3 .left))))
 
 pub prove-one-spec : {M : Type 1} → statement M
 prove-one-spec =

@@ -9,19 +9,18 @@ use lib.Seq.{length-take-le}
 use borrow.Author.Needs.{needs}
 use Rattle.circuit.specs.Circuit.{depth, exponentAt}
 use Rattle.lists.specs.Buffer.{over}
-use Rattle.protocol.specs.Rounds.{place}
+use Rattle.protocol.specs.Rounds.{place, AtRound}
 use Rattle.protocol.specs.Prove.{messageFrom}
 use Rattle.circuit.specs.Sized.{LegalCircuit}
 use Rattle.evaluation.specs.Layer.{AllValues}
 use Rattle.protocol.specs.Judge.{messageLength}
-use Rattle.standing.specs.Standing.{AtRound}
 use Rattle.circuit.proofs.Loading.{legal-lists}
 use Rattle.circuit.specs.Limits.{maxValues}
 use Rattle.messages.specs.Writing.{valuesIn, Writable}
 use Rattle.messages.proofs.Rows.{message-size}
 use Rattle.prover.specs.Writing.{Provable}
 use Rattle.prover.proofs.Values.{layer-values, writable, output-of}
-use Rattle.prover.proofs.Transcripts.{BeforeLayer, BeforeRound, all-start, layer-ends, all-end, lent, lent-size, lent-layer, given-back, coins-there, round-place, same-size, at-inside, lent-room, next-round}
+use Rattle.prover.proofs.Transcripts.{BeforeLayer, BeforeRound, first-layer, all-start, layer-ends, all-end, lent, lent-size, lent-layer, given-back, coins-there, round-place, same-size, at-inside, lent-room, next-round}
 use Rattle.prover.proofs.write_all.Statement.{statement}
 use Rattle.prover.proofs.write_all.Tie as tie
 
@@ -45,17 +44,17 @@ abbrev Layer : Type 0
 Layer = tie.At-loop Inv-loop2 μ-loop2 Inv-loop μ-loop
 
 abbrev start : Layer → tie.Start Inv-loop2 μ-loop2 Inv-loop μ-loop
-start o = o .before .before .before .before .before .before .before .before .before
+start o = o .before .before .before .before .before .before .before .before .before .before
 
 legal : (o : Layer) → LegalCircuit (start o .args .circuit .now)
-legal o = legal-lists (start o .args .circuit .now) (start o .args .input .now) (start o .pre .lists) .circuit
+legal o = legal-lists (start o .args .circuit .now) (start o .args .input .now) (start o .pre .given .lists) .circuit
 
 -- what the evaluation left in the array
 abbrev values : Layer → List ℕ
-values o = o .before .before .before .fill-values .last .1 .1 .0
+values o = o .before .before .before .before .fill-values .last .1 .1 .0
 
 held : (o : Layer) → AllValues (start o .args .circuit .now) (start o .args .input .now) (values o)
-held o = o .before .before .before .fill-values .ensures
+held o = o .before .before .before .before .fill-values .ensures
 
 -- the inner loop starts from the buffer as it is then
 can : (o : Layer) → Provable (start o .args .circuit .now) (start o .args .input .now) (start o .args .coins .now) (o .loop .messages)
@@ -77,7 +76,7 @@ more t = subst (λ (i : ℕ). t .before .loop2 .round < i) (t .before .loop2 .in
 coin : (t : Turn) → t .before .loop2 .n < length (start (layer t) .args .coins .now)
 coin t = coins-there _ _ _ _ (can (layer t)) _ _ _ _ _ (t .before .loop2 .inv .3) (more t)
 
-spot : (t : Turn) → AtRound (start (layer t) .args .circuit .now) (layer t .loop .layer) (t .before .loop2 .round) (take (t .before .loop2 .n) (start (layer t) .args .coins .now))
+spot : (t : Turn) → AtRound (start (layer t) .args .circuit .now) (place (layer t .loop .layer) (t .before .loop2 .round)) (length (take (t .before .loop2 .n) (start (layer t) .args .coins .now)))
 spot t = round-place _ _ _ _ (can (layer t)) _ _ _ _ _ (t .before .loop2 .inv .3) (more t)
 
 inside : (t : Turn) → t .before .loop2 .at + messageLength (start (layer t) .args .circuit .now) (place (layer t .loop .layer) (t .before .loop2 .round)) ≤ length (t .before .loop2 .messages)
@@ -95,40 +94,45 @@ abbrev past : Turn → List ℕ
 past t = take (t .before .loop2 .n) (start (layer t) .args .coins .now)
 
 ready : (t : Turn) → Writable (start (layer t) .args .circuit .now) (layer t .loop .layer) (t .before .loop2 .round) (past t) (own t) (part t)
-ready t = writable _ _ (start (layer t) .pre .lists) _ (held (layer t)) _ _ _ (part t) (spot t) (lent-room _ _ _ _ (can (layer t)) _ _ _ _ _ (t .before .loop2 .inv .3) (more t))
+ready t = writable _ _ (start (layer t) .pre .given .lists) _ (held (layer t)) _ _ _ (part t) (spot t) (lent-room _ _ _ _ (can (layer t)) _ _ _ _ _ (t .before .loop2 .inv .3) (more t))
 
 slice-aggregate-fill-values : tie.Need-slice-aggregate-fill-values Inv-loop2 μ-loop2 Inv-loop μ-loop
 slice-aggregate-fill-values c = search needs
 
 fill-values-requires : tie.Need-fill-values-requires Inv-loop2 μ-loop2 Inv-loop μ-loop
-fill-values-requires c κs = (c .before .before .before .before .before .pre .lists, length-replicate {A = ℕ} maxValues 0)
+fill-values-requires c κs = (c .before .before .before .before .before .pre .given .lists, length-replicate {A = ℕ} maxValues 0)
+
+coins-before-requires : tie.Need-coins-before-requires Inv-loop2 μ-loop2 Inv-loop μ-loop
+coins-before-requires c κs = search needs
 
 shared-slice-read-layer-end : tie.Need-shared-slice-read-layer-end Inv-loop2 μ-loop2 Inv-loop μ-loop
 shared-slice-read-layer-end c =
-    let begin = c .before .before .before .before .before .before .before .before in
-    let headed = legal-lists (begin .args .circuit .now) (begin .args .input .now) (begin .pre .lists) .circuit .sized .headed in
+    let begin = c .before .before .before .before .before .before .before .before .before in
+    let headed = legal-lists (begin .args .circuit .now) (begin .args .input .now) (begin .pre .given .lists) .circuit .sized .headed in
     let long = headed .long in
     let flat = headed .shallow in
     omega arith
 
 cast-layer-end : tie.Need-cast-layer-end Inv-loop2 μ-loop2 Inv-loop μ-loop
 cast-layer-end c =
-    let begin = c .before .before .before .before .before .before .before .before in
-    let headed = legal-lists (begin .args .circuit .now) (begin .args .input .now) (begin .pre .lists) .circuit .sized .headed in
+    let begin = c .before .before .before .before .before .before .before .before .before in
+    let headed = legal-lists (begin .args .circuit .now) (begin .args .input .now) (begin .pre .given .lists) .circuit .sized .headed in
     let long = headed .long in
     let flat = headed .shallow in
     omega arith
 
 add-layer-end : tie.Need-add-layer-end Inv-loop2 μ-loop2 Inv-loop μ-loop
 add-layer-end c =
-    let begin = c .before .before .before .before .before .before .before .before in
-    let headed = legal-lists (begin .args .circuit .now) (begin .args .input .now) (begin .pre .lists) .circuit .sized .headed in
+    let begin = c .before .before .before .before .before .before .before .before .before in
+    let headed = legal-lists (begin .args .circuit .now) (begin .args .input .now) (begin .pre .given .lists) .circuit .sized .headed in
     let long = headed .long in
     let flat = headed .shallow in
     omega arith
 
 loop-holds : tie.Need-loop-holds Inv-loop2 μ-loop2 Inv-loop μ-loop
-loop-holds c = (refl, all-start _ _ _ _ (c .before .before .before .before .before .before .before .before .pre))
+loop-holds c =
+    let begin = c .before .before .before .before .before .before .before .before .before in
+    (refl, all-start _ _ _ _ (begin .pre) _ (c .before .coins-before .ensures (first-layer _ _ (begin .args .coins .now) _ (begin .pre))))
 
 exponent-requires : tie.Need-exponent-requires Inv-loop2 μ-loop2 Inv-loop μ-loop
 exponent-requires c κs = search needs
@@ -199,7 +203,7 @@ loop2-again c =
     let t = c .before .before .before .before .before .before .before in
     let at = t .before in
     let o = layer t in
-    let same = layer-values _ _ (start o .pre .lists) _ (held o) (o .loop .layer) (spot t .last) in
+    let same = layer-values _ _ (start o .pre .given .lists) _ (held o) (o .loop .layer) (spot t .last) in
     let said : List ℕ → List ℕ = λ (vs : List ℕ). messageFrom (start o .args .circuit .now) vs (place (o .loop .layer) (at .loop2 .round)) (take (at .loop2 .n) (start o .args .coins .now)) in (
       at .loop2 .inv .0,
       at .loop2 .inv .1,
@@ -240,7 +244,7 @@ returns : tie.Need-returns Inv-loop2 μ-loop2 Inv-loop μ-loop
 returns c =
     let o = c .before in
     let done = all-end _ _ _ _ (start o .pre) _ _ _ _ (o .loop .inv .1) (omega (arith, c .loop-test .left, o .loop .inv .0)) in
-    record { output = output-of _ _ (start o .pre .lists) _ (held o); words = done .0; buffer = done .1 }
+    record { output = output-of _ _ (start o .pre .given .lists) _ (held o); words = done .0; buffer = done .1 }
 
 pub write-all-spec : {M : Type 1} → statement M
 write-all-spec =
@@ -252,6 +256,7 @@ write-all-spec =
     μ-loop
     slice-aggregate-fill-values
     fill-values-requires
+    coins-before-requires
     shared-slice-read-layer-end
     cast-layer-end
     add-layer-end

@@ -3,7 +3,7 @@
 use mathlib.Core.Path.{refl, sym, _∙_}
 use native.Mathlib.Omega.{arith}
 use Rattle.circuit.proofs.Loading.{not-true, not-false}
-use Rattle.session.proofs.Records.{long, small-round, small-layer, goes-round, goes-layer, goes-accepted, goes-refused, finished}
+use Rattle.session.proofs.Records.{long, small-round, small-layer, goes-round, goes-layer, goes-accepted, goes-refused}
 use borrow.Author.Needs.{needs}
 use Rattle.session.proofs.go_on.Statement.{statement}
 use Rattle.session.proofs.go_on.Tie as tie
@@ -94,7 +94,7 @@ returns-3 c =
     let s = a .session in
     let line = c .before .before .before .before .before .before in
     goes-accepted l v cs s (start .pre) (a .coin) (a .claim) (sym (line .before .is-line .ensures) ∙ not-false (line .if1 .left)) (search needs) _ (c .before .before .ended .ensures)
-    (sym (c .before .input-agrees .ensures (finished l v cs s (start .pre))) ∙ search needs) refl
+    (sym (c .before .input-agrees .ensures (start .pre .given)) ∙ search needs) refl
 
 returns-4 : tie.Need-returns-4
 returns-4 c =
@@ -106,7 +106,7 @@ returns-4 c =
     let s = a .session in
     let line = c .before .before .before .before .before .before in
     goes-refused l v cs s (start .pre) (a .coin) (a .claim) (sym (line .before .is-line .ensures) ∙ not-false (line .if1 .left)) (search needs) _ (c .before .before .ended .ensures)
-    (sym (c .before .input-agrees .ensures (finished l v cs s (start .pre))) ∙ search needs) refl
+    (sym (c .before .input-agrees .ensures (start .pre .given)) ∙ search needs) refl
 
 pub go-on-spec : {M : Type 1} → statement M
 go-on-spec =

@@ -10,6 +10,9 @@ use borrow.Author.Needs.{needs}
 use Rattle.standing.proofs.coin_count.Statement.{statement}
 use Rattle.standing.proofs.coin_count.Tie as tie
 
+exponent-requires : tie.Need-exponent-requires
+exponent-requires c κs = search needs
+
 word-requires : tie.Need-word-requires
 word-requires c κs = search needs
 
@@ -24,11 +27,14 @@ sum-layers-requires c κs = search needs
 
 returns : tie.Need-returns
 returns c h =
-    let l = c .before .before .before .args .circuit .now in
+    let start = c .before .before .before .before in
+    let l = start .args .circuit .now in
     let e = c .before .word .ensures in
+    let first = c .before .before .exponent .result in
     c .sum-layers .ensures (subst (λ (n : ℕ). LayerSoFar l (n + 1)) (sym e) (so-far l h))
-    ∙ ap (λ (n : ℕ). layerSum 2 (take (n + 1 - 1) (exponents l))) e ∙ sum-all l 2 h ∙ sum-coins l
+    ∙ ap (λ (n : ℕ). first + layerSum 2 (take (n + 1 - 1) (exponents l))) e ∙ sum-all l first 2 h
+    ∙ ap (λ (k : ℕ). k + layerSum 2 (exponents l)) (c .before .before .exponent .ensures) ∙ sum-coins l
 
 pub coin-count-spec : {M : Type 1} → statement M
 coin-count-spec =
-    tie.close (tie.spec word-requires cast-sum-layers add-sum-layers sum-layers-requires returns)
+    tie.close (tie.spec exponent-requires word-requires cast-sum-layers add-sum-layers sum-layers-requires returns)

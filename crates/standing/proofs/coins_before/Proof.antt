@@ -1,16 +1,28 @@
 -- `coins_before` meets its contract: 2k + 1 coins a layer.
 -- Assumes nothing.
-use mathlib.Core.Path.{_∙_}
+use Prim.Native.Nat.{ℕ, _+_, _-_}
+use mathlib.Core.Path.{ap, _∙_}
+use lib.ListN.{take}
+use Rattle.circuit.specs.Circuit.{exponents}
+use Rattle.standing.specs.Standing.{layerSum}
 use Rattle.standing.proofs.Coins.{sum-start}
 use borrow.Author.Needs.{needs}
 use Rattle.standing.proofs.coins_before.Statement.{statement}
 use Rattle.standing.proofs.coins_before.Tie as tie
 
+exponent-requires : tie.Need-exponent-requires
+exponent-requires c κs = search needs
+
 sum-layers-requires : tie.Need-sum-layers-requires
 sum-layers-requires c κs = search needs
 
 returns : tie.Need-returns
-returns c h = c .sum-layers .ensures h ∙ sum-start (c .before .before .args .circuit .now) (c .before .before .args .layer) h
+returns c h =
+    let start = c .before .before .before in
+    let l = start .args .circuit .now in
+    c .sum-layers .ensures h
+    ∙ ap (λ (k : ℕ). k + layerSum 2 (take (start .args .layer - 1) (exponents l))) (c .before .exponent .ensures)
+    ∙ sum-start l (start .args .layer) h
 
 pub coins-before-spec : {M : Type 1} → statement M
-coins-before-spec = tie.close (tie.spec sum-layers-requires returns)
+coins-before-spec = tie.close (tie.spec exponent-requires sum-layers-requires returns)

@@ -3,11 +3,13 @@
 use mathlib.Core.Path.{_∙_}
 use native.Mathlib.Omega.{arith}
 use Rattle.standing.proofs.Gates.{exponent-there, exponent-past}
+use Rattle.circuit.specs.Circuit.{outputExponent}
 use borrow.Author.Needs.{needs}
 use Rattle.standing.proofs.exponent.Statement.{statement}
 use Rattle.standing.proofs.exponent.Tie as tie
 
 returns : tie.Need-returns
+unfolding outputExponent
 returns c = search needs
 
 word-requires : tie.Need-word-requires

@@ -14,7 +14,7 @@ use Rattle.standing.proofs.gates_before.Tie as tie
 
 abbrev Inv-loop : tie.InvT-loop
 Inv-loop circuit layer count₀ i₀ count i =
-    (i ≤ layer) × (count ≤ 256 * i) × (LegalCircuit circuit → layer ≤ depth circuit → count ≡ gateCount outputExponent (take i (exponents circuit)))
+    (i ≤ layer) × (count ≤ 256 * i) × (LegalCircuit circuit → layer ≤ depth circuit → count ≡ gateCount (outputExponent circuit) (take i (exponents circuit)))
 
 abbrev μ-loop : tie.MeasureT-loop
 μ-loop circuit layer count₀ i₀ count i = layer - i
@@ -69,7 +69,7 @@ returns-2 c =
     let all : at .loop .i ≡ start .args .layer = search needs in
     record {
       few = omega (arith, at .loop .inv .1, at .loop .inv .0, at .before .if1 .left);
-      counted = λ h n. at .loop .inv .2 h n ∙ ap (λ (m : ℕ). gateCount outputExponent (take m (exponents l))) all;
+      counted = λ h n. at .loop .inv .2 h n ∙ ap (λ (m : ℕ). gateCount (outputExponent l) (take m (exponents l))) all;
     }
 
 pub gates-before-spec : {M : Type 1} → statement M

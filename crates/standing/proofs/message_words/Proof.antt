@@ -27,7 +27,7 @@ returns c h =
     let l = c .before .before .before .args .circuit .now in
     let e = c .before .word .ensures in
     c .sum-layers .ensures (subst (λ (n : ℕ). LayerSoFar l (n + 1)) (sym e) (so-far l h))
-    ∙ ap (λ (n : ℕ). layerSum 7 (take (n + 1 - 1) (exponents l))) e ∙ sum-all l 7 h ∙ sum-words l
+    ∙ ap (λ (n : ℕ). 0 + layerSum 7 (take (n + 1 - 1) (exponents l))) e ∙ sum-all l 0 7 h ∙ sum-words l
 
 pub message-words-spec : {M : Type 1} → statement M
 message-words-spec =

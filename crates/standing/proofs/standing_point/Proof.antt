@@ -12,8 +12,13 @@ use borrow.Author.Needs.{needs}
 use Rattle.standing.proofs.standing_point.Statement.{statement}
 use Rattle.standing.proofs.standing_point.Tie as tie
 
+row-requires : tie.Need-row-requires
+row-requires c κs = search needs
+
 returns : tie.Need-returns
-returns c h = first-row _ (c .before .before .before .args .past .now) (c .before .before .before .args .layer) _ h (c .if1 .taken) (search needs)
+returns c h =
+    let start = c .before .before .before .before in
+    first-row _ (start .args .past .now) (start .args .layer) _ h (c .before .if1 .taken) (c .row .ensures)
 
 sub-exponent : tie.Need-sub-exponent
 sub-exponent c = search needs
@@ -57,8 +62,8 @@ part-row-start c = search needs
 part-row-end : tie.Need-part-row-end
 part-row-end c = search needs
 
-row-requires : tie.Need-row-requires
-row-requires c κs = search needs
+row-requires-2 : tie.Need-row-requires-2
+row-requires-2 c κs = search needs
 
 mul-row-2 : tie.Need-mul-row-2
 mul-row-2 c = search needs
@@ -72,8 +77,8 @@ part-row-start-2 c = search needs
 part-row-end-2 : tie.Need-part-row-end-2
 part-row-end-2 c = search needs
 
-row-requires-2 : tie.Need-row-requires-2
-row-requires-2 c κs = search needs
+row-requires-3 : tie.Need-row-requires-3
+row-requires-3 c κs = search needs
 
 word-requires : tie.Need-word-requires
 word-requires c κs = search needs
@@ -97,8 +102,8 @@ returns-3 c h =
     let l = start .args .circuit .now in
     let past = start .args .past .now in
     let f = prime-modulus l (h .legal) _ (c .before .before .of .ensures ∙ ap (λ (p : ℕ). p - 1) (c .before .before .before .word .ensures)) in
-    let first = c .before .before .before .before .before .before .row in
-    let second = c .before .before .before .before .row2 in
+    let first = c .before .before .before .before .before .before .row2 in
+    let second = c .before .before .before .before .row3 in
     let line = c .line-point .ensures ∙ ap (λ (p : ℕ). linePoint (words p) (first .result) (second .result) (getD past (length past - 1) 0)) f in
     standing-row l past (start .args .layer) (at .exponent .result) _ _ _ _ _ _ h (at .before .if1 .left) (at .exponent .ensures) refl refl refl
     (first .ensures) (second .ensures) line
@@ -107,6 +112,7 @@ pub standing-point-spec : {M : Type 1} → statement M
 standing-point-spec =
     tie.close
     (tie.spec
+    row-requires
     returns
     sub-exponent
     exponent-requires
@@ -121,12 +127,12 @@ standing-point-spec =
     sub-row
     part-row-start
     part-row-end
-    row-requires
+    row-requires-2
     mul-row-2
     sub-row-2
     part-row-start-2
     part-row-end-2
-    row-requires-2
+    row-requires-3
     word-requires
     of-requires
     mul-line-point

@@ -13,12 +13,12 @@ use Rattle.standing.proofs.sum_layers.Statement.{statement}
 use Rattle.standing.proofs.sum_layers.Tie as tie
 
 abbrev Inv-loop : tie.InvT-loop
-Inv-loop circuit a layer sum₀ i₀ sum i =
+Inv-loop circuit first a layer sum₀ i₀ sum i =
     (1 ≤ i) × (i ≤ maxDepth + 1) × (sum ≤ 34359738368 * i)
-    × (LayerSoFar circuit layer → (i ≤ layer) × (sum ≡ layerSum a (take (i - 1) (exponents circuit))))
+    × (LayerSoFar circuit layer → (i ≤ layer) × (sum ≡ first + layerSum a (take (i - 1) (exponents circuit))))
 
 abbrev μ-loop : tie.MeasureT-loop
-μ-loop circuit a layer sum₀ i₀ sum i = layer - i
+μ-loop circuit first a layer sum₀ i₀ sum i = layer - i
 
 cast-if1 : tie.Need-cast-if1 Inv-loop μ-loop
 cast-if1 c = search needs
@@ -33,7 +33,7 @@ returns c h =
     absurd (omega (arith, c .if1 .taken, low, last))
 
 loop-holds : tie.Need-loop-holds Inv-loop μ-loop
-loop-holds c = let start = c .before .before in (search needs, search needs, search needs, λ h. (h .first, sum-first (start .args .circuit .now) (start .args .a)))
+loop-holds c = let start = c .before .before in (search needs, search needs, search needs, λ h. (h .first, sum-first (start .args .circuit .now) (start .args .first) (start .args .a)))
 
 exponent-requires : tie.Need-exponent-requires Inv-loop μ-loop
 exponent-requires c κs = search needs
@@ -73,7 +73,7 @@ loop-again c =
       omega (arith, more, at .loop .inv .2),
       λ h. (
         search needs,
-        sum-turn l (start .args .a) (at .loop .i) (at .loop .sum) (c .exponent .result) (h .legal) (at .loop .inv .0) (search needs) (at .loop .inv .3 h .1) (c .exponent .ensures),
+        sum-turn l (start .args .first) (start .args .a) (at .loop .i) (at .loop .sum) (c .exponent .result) (h .legal) (at .loop .inv .0) (search needs) (at .loop .inv .3 h .1) (c .exponent .ensures),
       ),
     )
 
@@ -83,7 +83,7 @@ returns-2 c h =
     let start = at .before .before .before in
     let l = start .args .circuit .now in
     let all : at .loop .i ≡ start .args .layer = let i = at .loop .inv .3 h .0 in omega (arith, i, c .loop-test .left) in
-    at .loop .inv .3 h .1 ∙ ap (λ (m : ℕ). layerSum (start .args .a) (take (m - 1) (exponents l))) all
+    at .loop .inv .3 h .1 ∙ ap (λ (m : ℕ). start .args .first + layerSum (start .args .a) (take (m - 1) (exponents l))) all
 
 pub sum-layers-spec : {M : Type 1} → statement M
 sum-layers-spec =

@@ -1,9 +1,16 @@
--- `check` meets its contract: what refuses an opening refuses it first, then the number of message words, then the walk.
+-- `check` meets its contract: what refuses an opening refuses it first, then the number of message words, then the walk from the claim of the
+-- opened record.
 -- Assumes nothing.
-use mathlib.Core.Path.{sym, ap, _∙_}
+use Prim.Native.Nat.{ℕ}
+use mathlib.Core.Path.{_≡_, sym, ap, _∙_}
+use mathlib.Core.List.{List}
+use Rattle.circuit.specs.Circuit.{messageWords}
 use Rattle.circuit.proofs.Loading.{legal-lists}
-use Rattle.session.specs.Answers.{openingOf}
-use Rattle.verifier.proofs.Checking.{check-refused, opened-lists, opened-coins, check-length, check-walks}
+use Rattle.protocol.specs.Check.{Counted}
+use Rattle.protocol.specs.Session.{opens, openAnswer}
+use Rattle.session.specs.Answers.{recordOf, openingOf}
+use Rattle.session.specs.declared.Session.{Session}
+use Rattle.verifier.proofs.Checking.{check-refused, opened-given, check-length, check-walks}
 use borrow.Author.Needs.{needs}
 use Rattle.verifier.proofs.check.Statement.{statement}
 use Rattle.verifier.proofs.check.Tie as tie
@@ -14,64 +21,62 @@ open-requires c κs = search needs
 enum-known-opening : tie.Need-enum-known-opening
 enum-known-opening c = search needs
 
-returns : tie.Need-returns
-returns c =
-    let at = c .before .before .before in
-    let a = at .before .before .before .before .before .args in
-    let l = a .circuit .now in
-    let v = a .input .now in
-    let ms = a .messages .now in
-    let cs = a .coins .now in
-    let told = c .before .opening .given in
-    check-refused l v (a .output) cs ms (told .0 .0) (sym (ap openingOf (told .1)) ∙ at .«open» .ensures)
-
-enum-told : tie.Need-enum-told
-enum-told c = search needs
+enum-known-opening-2 : tie.Need-enum-known-opening-2
+enum-known-opening-2 c = search needs
 
 message-words-requires : tie.Need-message-words-requires
 message-words-requires c κs = search needs
 
-returns-2 : tie.Need-returns-2
-returns-2 c =
-    let at = c .before .before .before .before in
-    let a = at .before .before .before .before .before .args in
-    let l = a .circuit .now in
-    let v = a .input .now in
-    let ms = a .messages .now in
-    let cs = a .coins .now in
-    let told = c .before .before .enum-told .given in
-    let opens-it = sym (ap openingOf (told .1)) ∙ at .«open» .ensures in
-    let lists = opened-lists l v (a .output) cs ms _ opens-it in
-    let legal = legal-lists l v lists .circuit in
-    check-length l v (a .output) cs ms _ opens-it (λ e. c .if1 .taken (e ∙ sym (c .before .message-words .ensures legal)))
+-- where the message words are counted
+abbrev Asked : Type 0
+Asked = tie.After-message-words
+
+abbrev start : Asked → tie.Start
+start w = w .before .before .before .before .before .before .before .before .before
+
+module _ (w : Asked) where
+  abbrev l : List ℕ
+  l = start w .args .circuit .now
+
+  abbrev v : List ℕ
+  v = start w .args .input .now
+
+  abbrev cs : List ℕ
+  cs = start w .args .coins .now
+
+  abbrev ms : List ℕ
+  ms = start w .args .messages .now
+
+  abbrev session : Session
+  session = w .before .before .opening2 .given .0 .0
+
+  opens-it : opens (recordOf session) ≡ openAnswer l v (start w .args .output) cs
+  opens-it = sym (ap openingOf (w .before .before .opening2 .given .1)) ∙ w .before .before .before .before .«open» .ensures
+
+  given : Counted l v cs
+  given = opened-given l v (start w .args .output) cs ms (recordOf session) opens-it
+
+  all-words : w .message-words .result ≡ messageWords l
+  all-words = w .message-words .ensures (legal-lists l v (given .lists) .circuit)
+
+returns : tie.Need-returns
+returns c =
+    let w = c .before in
+    check-length (l w) (v w) (start w .args .output) (cs w) (ms w) (recordOf (session w)) (opens-it w) (λ e. c .if1 .taken (e ∙ sym (all-words w)))
 
 walk-requires : tie.Need-walk-requires
-walk-requires c κs =
-    let at = c .before .before .before .before in
-    let a = at .before .before .before .before .before .args in
-    let l = a .circuit .now in
-    let v = a .input .now in
-    let ms = a .messages .now in
-    let cs = a .coins .now in
-    let told = c .before .before .enum-told .given in
-    let opens-it = sym (ap openingOf (told .1)) ∙ at .«open» .ensures in
-    let lists = opened-lists l v (a .output) cs ms _ opens-it in
-    let legal = legal-lists l v lists .circuit in
-    record { coins = record { lists = lists; counted = opened-coins l v (a .output) cs ms _ opens-it }; words = c .if1 .left ∙ c .before .message-words .ensures legal }
+walk-requires c κs = record { given = given (c .before); words = c .if1 .left ∙ all-words (c .before) }
+
+returns-2 : tie.Need-returns-2
+returns-2 c =
+    let told = c .before .opening .given in
+    check-refused _ _ _ _ _ (told .0 .0) (sym (ap openingOf (told .1)) ∙ c .before .before .before .«open» .ensures)
 
 returns-3 : tie.Need-returns-3
 returns-3 c =
-    let at = c .before .before .before .before .before in
-    let a = at .before .before .before .before .before .args in
-    let l = a .circuit .now in
-    let v = a .input .now in
-    let ms = a .messages .now in
-    let cs = a .coins .now in
-    let told = c .before .before .before .enum-told .given in
-    let opens-it = sym (ap openingOf (told .1)) ∙ at .«open» .ensures in
-    let lists = opened-lists l v (a .output) cs ms _ opens-it in
-    let legal = legal-lists l v lists .circuit in
-    c .walk .ensures ∙ check-walks l v (a .output) cs ms _ opens-it (c .before .if1 .left ∙ c .before .before .message-words .ensures legal)
+    let w = c .before .before in
+    c .walk .ensures
+    ∙ check-walks (l w) (v w) (start w .args .output) (cs w) (ms w) (recordOf (session w)) (opens-it w) (c .before .if1 .left ∙ all-words w)
 
 pub check-spec : {M : Type 1} → statement M
 check-spec =
@@ -79,9 +84,9 @@ check-spec =
     (tie.spec
     open-requires
     enum-known-opening
-    returns
-    enum-told
+    enum-known-opening-2
     message-words-requires
-    returns-2
+    returns
     walk-requires
+    returns-2
     returns-3)

@@ -12,42 +12,41 @@ use Rattle.refusal.specs.Number.{causeOf}
 use Rattle.circuit.specs.Circuit.{exponentAt}
 use Rattle.circuit.specs.Circuit.{depth as depthOf}
 use Rattle.circuit.specs.Sized.{LegalCircuit}
-use Rattle.protocol.specs.Rounds.{place}
+use Rattle.protocol.specs.Rounds.{place, AtRound}
 use Rattle.protocol.specs.Judge.{messageLength}
-use Rattle.standing.specs.Standing.{AtRound}
 use Rattle.circuit.proofs.Layers.{prime-modulus}
 use Rattle.circuit.proofs.Loading.{legal-lists}
-use Rattle.verifier.proofs.Walking.{BeforeLayer, BeforeRound, walk-starts, layer-starts, layer-ends, walk-ends, coin-there, words-there, round-place, round-passes, round-refuses}
+use Rattle.verifier.proofs.Walking.{BeforeLayer, BeforeRound, first-layer, walk-starts, layer-starts, layer-ends, walk-ends, coin-there, words-there, round-place, round-passes, round-refuses}
 use Rattle.verifier.proofs.walk.Statement.{statement}
 use Rattle.verifier.proofs.walk.Tie as tie
 
 abbrev Inv-loop : tie.InvT-loop
-Inv-loop circuit input output coins messages f depth claim₀ layer n₀ at₀ round₀ round-end claim n at round =
-    (round-end ≡ 2 * exponentAt circuit layer + 1) × BeforeRound circuit input output messages coins layer round n at claim
+Inv-loop circuit input first coins messages f depth claim₀ layer n₀ at₀ round₀ round-end claim n at round =
+    (round-end ≡ 2 * exponentAt circuit layer + 1) × BeforeRound circuit input first messages coins layer round n at claim
 
 abbrev μ-loop : tie.MeasureT-loop
-μ-loop circuit input output coins messages f depth claim₀ layer n₀ at₀ round₀ round-end claim n at round =
+μ-loop circuit input first coins messages f depth claim₀ layer n₀ at₀ round₀ round-end claim n at round =
     round-end - round
 
 abbrev Inv-walk : tie.InvT-walk
-Inv-walk circuit input output coins messages f depth claim₀ layer₀ n₀ at₀ claim layer n at = BeforeLayer circuit input output messages coins layer n at claim
+Inv-walk circuit input first coins messages f depth claim₀ layer₀ n₀ at₀ claim layer n at = BeforeLayer circuit input first messages coins layer n at claim
 
 abbrev μ-walk : tie.MeasureT-walk
-μ-walk circuit input output coins messages f depth claim₀ layer₀ n₀ at₀ claim layer n at = 1 + depthOf circuit - layer
+μ-walk circuit input first coins messages f depth claim₀ layer₀ n₀ at₀ claim layer n at = 1 + depthOf circuit - layer
 
 -- the start's circuit has its words
 abbrev Start : Type 0
 Start = tie.Start Inv-loop μ-loop Inv-walk μ-walk
 
 legal : (s : Start) → LegalCircuit (s .args .circuit .now)
-legal s = legal-lists (s .args .circuit .now) (s .args .input .now) (s .pre .coins .lists) .circuit
+legal s = legal-lists (s .args .circuit .now) (s .args .input .now) (s .pre .given .lists) .circuit
 
 -- where the outer loop stands
 abbrev Layer : Type 0
 Layer = tie.At-walk Inv-loop μ-loop Inv-walk μ-walk
 
 abbrev start : Layer → Start
-start o = o .before .before .before .before .before .before .before .before
+start o = o .before .before .before .before .before .before .before .before .before
 
 -- a turn of the inner loop
 abbrev Turn : Type 0
@@ -62,7 +61,7 @@ more t = subst (λ (i : ℕ). t .before .loop .round < i) (t .before .loop .inv 
 coin : (t : Turn) → t .before .loop .n < length (start (layer t) .args .coins .now)
 coin t = coin-there _ _ _ _ _ (start (layer t) .pre) _ _ _ _ _ (t .before .loop .inv .1) (more t)
 
-spot : (t : Turn) → AtRound (start (layer t) .args .circuit .now) (layer t .walk .layer) (t .before .loop .round) (take (t .before .loop .n) (start (layer t) .args .coins .now))
+spot : (t : Turn) → AtRound (start (layer t) .args .circuit .now) (place (layer t .walk .layer) (t .before .loop .round)) (length (take (t .before .loop .n) (start (layer t) .args .coins .now)))
 spot t = round-place _ _ _ _ _ (start (layer t) .pre) _ _ _ _ _ (t .before .loop .inv .1) (more t)
 
 words : (t : Turn) → t .before .loop .at + messageLength (start (layer t) .args .circuit .now) (place (layer t .walk .layer) (t .before .loop .round)) ≤ length (start (layer t) .args .messages .now)
@@ -80,11 +79,16 @@ shared-slice-read-depth c = let long = legal (c .before .before .before .before 
 cast-depth : tie.Need-cast-depth Inv-loop μ-loop Inv-walk μ-walk
 cast-depth c = let long = legal (c .before .before .before .before .before .before .before) .sized .headed .long in omega (arith, c .shared-slice-known6 .given 1)
 
+coins-before-requires : tie.Need-coins-before-requires Inv-loop μ-loop Inv-walk μ-walk
+coins-before-requires c κs = search needs
+
 walk-holds : tie.Need-walk-holds Inv-loop μ-loop Inv-walk μ-walk
-walk-holds c = walk-starts _ _ _ _ _ (c .before .before .before .before .before .before .before .pre)
+walk-holds c =
+    let s = c .before .before .before .before .before .before .before .before in
+    walk-starts _ _ _ _ _ (s .pre) _ (c .coins-before .ensures (first-layer _ _ (s .args .first) _ _ (s .pre)))
 
 finish-requires : tie.Need-finish-requires Inv-loop μ-loop Inv-walk μ-walk
-finish-requires c κs = start (c .before) .pre .coins
+finish-requires c κs = start (c .before) .pre .given
 
 exponent-requires : tie.Need-exponent-requires Inv-loop μ-loop Inv-walk μ-walk
 exponent-requires c κs = search needs
@@ -180,7 +184,7 @@ loop-again c =
     let o = layer t in
     let wide = c .before .before .before .before .before .before .before .message-length in
     let m = take (t .before .loop .at + wide .result - t .before .loop .at) (drop (t .before .loop .at) (start o .args .messages .now)) in
-    let f = prime-modulus _ (legal (start o)) _ (o .before .before .of .ensures) in
+    let f = prime-modulus _ (legal (start o)) _ (o .before .before .before .of .ensures) in
     let passed = sym (c .before .before .before .before .judge .ensures (spot t)) ∙ ap causeOf (c .before .before .enum-told .given .1) in (
       t .before .loop .inv .0,
       round-passes _ _ _ _ _ (start o .pre) _ _ _ _ _ (t .before .loop .inv .1) (more t) (wide .result) (wide .ensures) (c .value-at .result) passed
@@ -226,6 +230,7 @@ walk-spec =
     of-requires
     shared-slice-read-depth
     cast-depth
+    coins-before-requires
     walk-holds
     finish-requires
     exponent-requires
