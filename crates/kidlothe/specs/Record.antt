@@ -17,7 +17,7 @@ sessionWords s = s .round .layer ∷ s .round .round ∷ s .claim ∷ cond (s .o
 
 -- what Open leaves: a refusal leaves the words
 abbrev pub openWords : List ℕ → List ℕ → ℕ → List ℕ → List ℕ → List ℕ
-openWords c input y cs before = cond (eqb (openCause c input y cs) 0) (sessionWords (openedAt y)) before
+openWords c input y cs before = cond (eqb (openCause c input y cs) 0) (sessionWords (openedAt c y cs)) before
 
 -- what Step leaves, from the record after it: the words of a record that is not open stay, whatever they are
 abbrev pub stepWords : List ℕ → Record Place → List ℕ

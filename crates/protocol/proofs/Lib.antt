@@ -8,3 +8,4 @@ pub mod Session
 pub mod Theorems
 pub mod Places
 pub mod Proved
+pub mod Opening

@@ -1,6 +1,5 @@
 -- `kidlothe_open` meets its contract: the case of the answer gives its number and the words.
 -- Assumes nothing.
-use Rattle.refusal.specs.Number.{numberOf}
 use Rattle.session.specs.Answers.{recordOf, openingOf}
 use Rattle.kidlothe.proofs.Told.{told}
 use Rattle.kidlothe.proofs.Opening.{export-opened, export-refused}
@@ -33,7 +32,7 @@ returns-2 : tie.Need-returns-2
 returns-2 c =
     let case = c .before .before .opening2 .given in
     let call = c .before .before .before .before .«open» in
-    export-refused _ _ _ _ _ (numberOf (case .0 .0)) (told openingOf (case .1) (call .ensures)) _ (c .number .ensures)
+    export-refused _ _ _ _ _ (case .0 .0) (told openingOf (case .1) (call .ensures)) _ (c .number .ensures)
 
 pub kidlothe-open-spec : {M : Type 1} → statement M
 kidlothe-open-spec =
