@@ -14,7 +14,7 @@ ghost use Rattle.printing.specs.Printed.{refusedText};
 // The bytes that may be read, and the words that they hold.
 pub const MAX_BYTES: usize = 65536;
 
-pub const MAX_WORDS: usize = 16384;
+pub const MAX_WORDS: usize = MAX_BYTES / 4;
 
 // The bytes of the longest line that a refusal or an output has.
 pub const MAX_LINE: usize = 19;

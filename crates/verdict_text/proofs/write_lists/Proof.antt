@@ -1,10 +1,12 @@
 -- `write_lists` meets its contract: a transcript without an output is refused, and another is the output and the messages for Check.
 -- Assumes nothing.
+use Prim.Native.Nat.{ℕ}
 use mathlib.Core.Path.{ap, _∙_}
 use native.Mathlib.Omega.{arith}
 use borrow.Author.Needs.{needs}
 use Rattle.text.proofs.Writing.{wrote-as}
-use Rattle.verdict_text.specs.Verdict.{answerText}
+use Rattle.printing.specs.Printed.{answerText}
+use Rattle.verdict_text.specs.Verdict.{acceptedText}
 use Rattle.verdict_text.proofs.Lists.{printed-empty, printed-checked}
 use Rattle.verdict_text.proofs.write_lists.Statement.{statement}
 use Rattle.verdict_text.proofs.write_lists.Tie as tie
@@ -47,7 +49,7 @@ returns-2 c =
     let a = c .before .before .before .before .before .before .before .before .before .before .before .before .before .args in
     let call = c .before .before .before .before .check in
     wrote-as _ _ _ _ (c .before .before .write-outcome .ensures) _
-    (ap answerText (call .ensures) ∙ printed-checked (a .circuit .now) (a .input .now) (a .coins .now) (a .transcript .now) (omega arith))
+    (ap (λ (n : ℕ). answerText n acceptedText) (call .ensures) ∙ printed-checked (a .circuit .now) (a .input .now) (a .coins .now) (a .transcript .now) (omega arith))
 
 pub write-lists-spec : {M : Type 1} → statement M
 write-lists-spec =
