@@ -16,9 +16,6 @@ pub const MAX_BYTES: usize = 65536;
 
 pub const MAX_WORDS: usize = MAX_BYTES / 4;
 
-// The bytes of the longest line that a refusal or an output has.
-pub const MAX_LINE: usize = 19;
-
 // Writes the line of a refusal, as much as the buffer holds, and answers how much that is.
 pub fn write_refused(cause: Cause, text: &mut [u8]) -> usize
     ensures { λ r. ⌜ Wrote (refusedText (numberOf cause)) (now (text .entry)) (now (text .exit)) r ⌝ }

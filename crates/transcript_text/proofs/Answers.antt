@@ -47,6 +47,13 @@ module _ (c input cs : List ℕ) where
             (eqb-true (length cs) (coinCount c) (number .0), all-below (primeOf c) cs (small .0));
       }
 
+  -- what a proof wrote is the transcript
+  pub record Printed (y n : ℕ) (after : List ℕ) : Type 0 where
+    pub legal : LegalCircuit c
+    pub inside : n ≤ length after
+    pub words : length (take n after) ≡ messageWords c
+    pub text : proofText c y (take n after) ≡ listsText c input cs
+
   module _ (buffer : List ℕ) (room : maxMessageWords ≤ length buffer) where
     -- the prover's refusals
     same-cause : proveCause c input cs buffer ≡ listsRefusal c input cs
@@ -68,13 +75,6 @@ module _ (c input cs : List ℕ) where
             → refusedText n ≡ answerText k (proofText c (value c input) ms)
         go zero e = absurd (let z : _≡_ {A = ℕ} 0 1 = cc in omega arith)
         go (suc k) e = let same : n ≡ suc k = cc in ap refusedText same
-
-    -- a proof: what it wrote is the transcript
-    pub record Printed (y n : ℕ) (after : List ℕ) : Type 0 where
-      pub legal : LegalCircuit c
-      pub inside : n ≤ length after
-      pub words : length (take n after) ≡ messageWords c
-      pub text : proofText c y (take n after) ≡ listsText c input cs
 
     pub printed-proved : (y n : ℕ) (after : List ℕ) → proved y n ≡ proveAnswer c input cs buffer → after ≡ proveBuffer c input cs buffer
         → Printed y n after

@@ -15,7 +15,7 @@ use Rattle.circuit.proofs.Sized.{deep}
 use Rattle.circuit.proofs.Layers.{all-below}
 use Rattle.standing.specs.Standing.{layerSum}
 use Rattle.standing.proofs.Coins.{sum-coins, sum-words}
-use Rattle.protocol.specs.Rounds.{Place, rounds, isLine}
+use Rattle.protocol.specs.Rounds.{Place, isLine}
 use Rattle.protocol.specs.Judge.{messageLength}
 use Rattle.text.specs.Lines.{ascii}
 use Rattle.text.proofs.Lengths.{line-short}

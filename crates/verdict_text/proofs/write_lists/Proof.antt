@@ -18,10 +18,7 @@ same-length : tie.Need-same-length
 same-length c = search needs
 
 returns : tie.Need-returns
-returns c =
-    let a = c .before .before .before .before .before .before .before .before .before .before .args in
-    wrote-as _ _ _ _ (c .before .before .write-refused .ensures) _
-    (printed-empty (a .circuit .now) (a .input .now) (a .coins .now) (a .transcript .now) (omega arith))
+returns c = wrote-as _ _ _ _ (c .before .before .write-refused .ensures) _ (printed-empty _ _ _ _ (omega arith))
 
 shared-slice-read-check : tie.Need-shared-slice-read-check
 shared-slice-read-check c = search needs
@@ -46,10 +43,8 @@ same-length-2 c = search needs
 
 returns-2 : tie.Need-returns-2
 returns-2 c =
-    let a = c .before .before .before .before .before .before .before .before .before .before .before .before .before .args in
-    let call = c .before .before .before .before .check in
     wrote-as _ _ _ _ (c .before .before .write-outcome .ensures) _
-    (ap (λ (n : ℕ). answerText n acceptedText) (call .ensures) ∙ printed-checked (a .circuit .now) (a .input .now) (a .coins .now) (a .transcript .now) (omega arith))
+    (ap (λ (n : ℕ). answerText n acceptedText) (c .before .before .before .before .check .ensures) ∙ printed-checked _ _ _ _ (omega arith))
 
 pub write-lists-spec : {M : Type 1} → statement M
 write-lists-spec =
