@@ -4,6 +4,8 @@
 // that many bytes. A case is a part, which holds
 //     the program's number, a word: 1 transcript, 2 verdict, 3 evaluate
 //     the program's input, a part
+use programs::Program;
+
 const MAX_CASES: usize = 65536;
 
 const MAX_BYTES: usize = 131072;
@@ -13,18 +15,13 @@ const INPUT: usize = 4;
 
 fn run(case: &[u8]) {
     let input = cases::part(case, INPUT);
-    let program = cases::word(case, 0);
-    match program {
-        1 => {
-            transcript_text::print_transcript(input);
-        }
-        2 => {
-            verdict_text::print_verdict(input);
-        }
-        _ => {
-            evaluate_text::print_output(input);
-        }
-    }
+    let number = cases::word(case, 0);
+    let program = match number {
+        1 => Program::Transcript,
+        2 => Program::Verdict,
+        _ => Program::Evaluate,
+    };
+    programs::print_text(program, input);
 }
 
 fn main() {

@@ -1,5 +1,4 @@
--- What is printed for lists, from what an evaluation answers, whose buffer of 4,097 words is never too short; and for bytes, from the
--- lists that were read from them. No text is longer than the line of a refusal.
+-- What is printed for lists, from what an evaluation answers, whose buffer is never too short. No text is longer than the line of a refusal.
 -- Assumes nothing.
 use Prim.Native.Nat.{ℕ, zero, suc, _≤_}
 use mathlib.Core.Path.{_≡_, refl, ap, _∙_}
@@ -7,10 +6,9 @@ use mathlib.Core.Bool.{Bool}
 use mathlib.Core.List.{List, [], _∷_}
 use native.Mathlib.Omega.{arith}
 use lib.Dec.{leb}
-use lib.ListN.{length, take, drop, getD}
+use lib.ListN.{length}
 use borrow.Author.Tests.{le-leb}
 use Rattle.refusal.specs.Order.{need, first}
-use Rattle.xdr.specs.Read.{refused as unread, countsOf}
 use Rattle.circuit.specs.Circuit.{valueCount}
 use Rattle.circuit.specs.Legal.{listsCause}
 use Rattle.circuit.specs.Values.{value}
@@ -18,16 +16,13 @@ use Rattle.circuit.specs.Limits.{maxValues}
 use Rattle.circuit.proofs.Loading.{legal-lists}
 use Rattle.evaluation.specs.Evaluate.{output, refused, evaluated, evaluateCause, evaluateAnswer}
 use Rattle.evaluation.proofs.Evaluating.{total-fits}
-use Rattle.text.specs.Lines.{ascii, lineText}
+use Rattle.text.specs.Lines.{ascii}
 use Rattle.text.proofs.Lengths.{line-short}
 use Rattle.printing.specs.Limits.{maxLine}
-use Rattle.printing.specs.Input.{given}
-use Rattle.printing.specs.Printed.{refusedText}
-use Rattle.printing.proofs.Parts.{Parts, refused-unfit, printed-lists}
-use Rattle.printing.proofs.Lengths.{refused-short, printed-short}
-use Rattle.evaluate_text.specs.Output.{answerText, listsText, outputText}
+use Rattle.printing.specs.Printed.{refusedText, answerText}
+use Rattle.printing.proofs.Lengths.{answer-short}
+use Rattle.evaluate_text.specs.Output.{valueText, listsText}
 
--- AN EVALUATION
 module _ (c input buffer : List ℕ) (room : maxValues ≤ length buffer) where
   same-cause : evaluateCause c input buffer ≡ listsCause c input
   unfolding evaluateCause
@@ -44,38 +39,19 @@ module _ (c input buffer : List ℕ) (room : maxValues ≤ length buffer) where
   unfolding evaluateAnswer listsText
   printed-refused n e = go (listsCause c input) (e ∙ ap (λ (k : ℕ). evaluated k (value c input)) same-cause)
     where
-      go : (k : ℕ) → refused n ≡ evaluated k (value c input) → refusedText n ≡ answerText k (value c input)
+      go : (k : ℕ) → refused n ≡ evaluated k (value c input) → refusedText n ≡ answerText k (valueText (value c input))
       go zero e = absurd (let z : _≡_ {A = ℕ} 0 1 = cc in omega arith)
       go (suc k) e = let same : n ≡ suc k = cc in ap refusedText same
 
-  pub printed-output : (y : ℕ) → output y ≡ evaluateAnswer c input buffer → lineText (ascii "output") (y ∷ []) ≡ listsText c input
+  pub printed-output : (y : ℕ) → output y ≡ evaluateAnswer c input buffer → valueText y ≡ listsText c input
   unfolding evaluateAnswer listsText
   printed-output y e = go (listsCause c input) (e ∙ ap (λ (k : ℕ). evaluated k (value c input)) same-cause)
     where
-      go : (k : ℕ) → output y ≡ evaluated k (value c input) → lineText (ascii "output") (y ∷ []) ≡ answerText k (value c input)
-      go zero e = let same : y ≡ value c input = cc in ap (λ (x : ℕ). lineText (ascii "output") (x ∷ [])) same
+      go : (k : ℕ) → output y ≡ evaluated k (value c input) → valueText y ≡ answerText k (valueText (value c input))
+      go zero e = let same : y ≡ value c input = cc in ap valueText same
       go (suc k) e = absurd (let z : _≡_ {A = ℕ} 0 1 = cc in omega arith)
 
--- THE BYTES
-module _ (bytes : List ℕ) where
-  pub printed-unfit : (n : ℕ) → unread n ≡ countsOf (given 2 bytes) → refusedText n ≡ outputText bytes
-  unfolding outputText
-  printed-unfit n e = refused-unfit _ (given 2 bytes) n e
-
-  pub printed-parts : (a b c d : ℕ) (words : List ℕ) → Parts (given 2 bytes) a b c d words
-      → listsText (take a words) (take b (drop a words)) ≡ outputText bytes
-  unfolding outputText
-  printed-parts a b c d words p = rw (p .first, p .second) (printed-lists _ (given 2 bytes) (p .lists) (p .are))
-
--- THE LENGTH
-answer-short : (n y : ℕ) → length (answerText n y) ≤ maxLine
-answer-short zero y = omega (arith, line-short (ascii "output") (y ∷ []))
-answer-short (suc n) y = refused-short (suc n)
-
-lists-short : (c input : List ℕ) → length (listsText c input) ≤ maxLine
+pub lists-short : (c input : List ℕ) → length (listsText c input) ≤ maxLine
 unfolding listsText
-lists-short c input = answer-short (listsCause c input) (value c input)
-
-pub output-short : (bytes : List ℕ) → length (outputText bytes) ≤ maxLine
-unfolding outputText
-output-short bytes = printed-short _ maxLine (omega arith) (λ ls. lists-short (getD ls 0 []) (getD ls 1 [])) (given 2 bytes)
+lists-short c input =
+    answer-short (listsCause c input) _ maxLine (omega arith) (λ e. omega (arith, line-short (ascii "output") (value c input ∷ [])))

@@ -1,4 +1,4 @@
--- The arrays that a program reads: no more than 65,536 bytes hold more than 16,384 words, so that reading never lacks room.
+-- The arrays that a program reads: bytes that may be read hold no more words than the array, so that reading never lacks room.
 -- Assumes nothing.
 use Prim.Native.Nat.{ℕ, _*_, _≤_, _<_}
 use mathlib.Core.Path.{_≡_, refl, sym}
@@ -13,7 +13,7 @@ use Rattle.lists.specs.Buffer.{over}
 use Rattle.xdr.specs.Read.{arrays, called, refused, countsOf, wordsOf, readAnswer, readBuffer}
 use Rattle.xdr.proofs.Found.{words-few}
 use Rattle.xdr.proofs.Answers.{read-whole}
-use Rattle.printing.specs.Limits.{maxBytes}
+use Rattle.printing.specs.Limits.{maxBytes, maxWords}
 use Rattle.printing.specs.Input.{given}
 
 module _ (n : ℕ) (bytes buffer : List ℕ) where
@@ -38,7 +38,7 @@ module _ (n : ℕ) (bytes buffer : List ℕ) where
       go true e = omega (arith, few-words, leb-true (length bytes) maxBytes e)
       go false e = omega arith
 
-  pub read-short : length bytes ≤ maxBytes → 16384 ≤ length buffer
+  pub read-short : length bytes ≤ maxBytes → maxWords ≤ length buffer
       → (readAnswer n bytes buffer ≡ countsOf (given n bytes)) × (readBuffer n bytes buffer ≡ over (wordsOf (given n bytes)) buffer)
   unfolding given
   read-short h room =

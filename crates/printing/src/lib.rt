@@ -14,10 +14,7 @@ ghost use Rattle.printing.specs.Printed.{refusedText};
 // The bytes that may be read, and the words that they hold.
 pub const MAX_BYTES: usize = 65536;
 
-pub const MAX_WORDS: usize = 16384;
-
-// The bytes of the longest line that a refusal or an output has.
-pub const MAX_LINE: usize = 19;
+pub const MAX_WORDS: usize = MAX_BYTES / 4;
 
 // Writes the line of a refusal, as much as the buffer holds, and answers how much that is.
 pub fn write_refused(cause: Cause, text: &mut [u8]) -> usize

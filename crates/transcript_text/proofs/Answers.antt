@@ -1,4 +1,4 @@
--- What is printed for three lists, from what the prover answers: no buffer of 912 words is too short for it.
+-- What is printed for lists, from what the prover answers, whose buffer is never too short.
 -- Assumes nothing.
 use Prim.Native.Nat.{ℕ, zero, suc, _≤_}
 use mathlib.Core.Path.{_≡_, refl, sym, ap, ap₂, _∙_}
@@ -22,8 +22,9 @@ use Rattle.protocol.specs.Check.{needCoins}
 use Rattle.protocol.specs.Prove.{proved, refused, proofOf, honest, transcript, proveCause, proveAnswer, proveBuffer}
 use Rattle.protocol.proofs.Check.{length-transcript}
 use Rattle.protocol.proofs.Theorems.{honest-fits}
-use Rattle.printing.specs.Printed.{refusedText}
-use Rattle.transcript_text.specs.Transcript.{proofText, answerText, listsRefusal, listsText}
+use Rattle.printing.specs.Printed.{refusedText, answerText}
+use Rattle.transcript_text.specs.Limits.{maxMessageWords}
+use Rattle.transcript_text.specs.Transcript.{proofText, listsRefusal, listsText}
 use Rattle.transcript_text.proofs.Limits.{words-few}
 
 module _ (c input cs : List ℕ) where
@@ -46,7 +47,14 @@ module _ (c input cs : List ℕ) where
             (eqb-true (length cs) (coinCount c) (number .0), all-below (primeOf c) cs (small .0));
       }
 
-  module _ (buffer : List ℕ) (room : 912 ≤ length buffer) where
+  -- what a proof wrote is the transcript
+  pub record Printed (y n : ℕ) (after : List ℕ) : Type 0 where
+    pub legal : LegalCircuit c
+    pub inside : n ≤ length after
+    pub words : length (take n after) ≡ messageWords c
+    pub text : proofText c y (take n after) ≡ listsText c input cs
+
+  module _ (buffer : List ℕ) (room : maxMessageWords ≤ length buffer) where
     -- the prover's refusals
     same-cause : proveCause c input cs buffer ≡ listsRefusal c input cs
     unfolding proveCause
@@ -64,16 +72,9 @@ module _ (c input cs : List ℕ) where
     printed-refused n e = go (listsRefusal c input cs) (e ∙ ap (λ (k : ℕ). proofOf k (value c input) (messageWords c)) same-cause)
       where
         go : (k : ℕ) → refused n ≡ proofOf k (value c input) (messageWords c)
-            → refusedText n ≡ answerText k c (value c input) ms
+            → refusedText n ≡ answerText k (proofText c (value c input) ms)
         go zero e = absurd (let z : _≡_ {A = ℕ} 0 1 = cc in omega arith)
         go (suc k) e = let same : n ≡ suc k = cc in ap refusedText same
-
-    -- a proof: what it wrote is the transcript
-    pub record Printed (y n : ℕ) (after : List ℕ) : Type 0 where
-      pub legal : LegalCircuit c
-      pub inside : n ≤ length after
-      pub words : length (take n after) ≡ messageWords c
-      pub text : proofText c y (take n after) ≡ listsText c input cs
 
     pub printed-proved : (y n : ℕ) (after : List ℕ) → proved y n ≡ proveAnswer c input cs buffer → after ≡ proveBuffer c input cs buffer
         → Printed y n after
@@ -97,7 +98,7 @@ module _ (c input cs : List ℕ) where
               words = words;
               text =
                   ap₂ (λ (x : ℕ) (ws : List ℕ). proofText c x ws) output front
-                  ∙ ap (λ (k : ℕ). answerText k c (value c input) ms) (sym none);
+                  ∙ ap (λ (k : ℕ). answerText k (proofText c (value c input) ms)) (sym none);
             }
         go (suc k) some =
             let answer : proved y n ≡ refused (suc k) =

@@ -2,4 +2,3 @@ pub mod Messages
 pub mod Limits
 pub mod Answers
 pub mod Length
-pub mod Lists

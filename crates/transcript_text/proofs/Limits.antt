@@ -1,42 +1,42 @@
--- A legal circuit has at most 272 rounds and 912 message words, so that no text is longer than the limit.
+-- A legal circuit has no more rounds and message words than the largest, so that no text is longer than the limit.
 -- Assumes nothing.
 use Prim.Native.Nat.{ℕ, _+_, _*_, _≤_, _<_}
 use mathlib.Core.Path.{subst}
 use mathlib.Core.Bool.{Bool, true, false, cond}
 use mathlib.Core.List.{List, [], _∷_}
-use native.Mathlib.Nat.{mul-le-mul-left}
+use native.Mathlib.Nat.{mul-le-mul-left, mul-le-mul-right, le-trans}
 use native.Mathlib.Omega.{arith}
 use lib.ListN.{length, take, drop, length-append, length-take, length-drop}
 use Rattle.lists.proofs.Count.{sum-le, sum-const}
-use Rattle.circuit.specs.Limits.{maxExponent}
-use Rattle.circuit.specs.Circuit.{exponents, messageWords}
+use Rattle.circuit.specs.Limits.{maxDepth, maxExponent}
+use Rattle.circuit.specs.Circuit.{exponents, coinCount, messageWords}
 use Rattle.circuit.specs.Sized.{LegalCircuit}
 use Rattle.circuit.proofs.Sized.{deep}
 use Rattle.circuit.proofs.Layers.{all-below}
 use Rattle.standing.specs.Standing.{layerSum}
 use Rattle.standing.proofs.Coins.{sum-coins, sum-words}
-use Rattle.protocol.specs.Rounds.{Place, rounds, isLine}
+use Rattle.protocol.specs.Rounds.{Place, isLine}
 use Rattle.protocol.specs.Judge.{messageLength}
-use Rattle.protocol.proofs.Rounds.{as-many}
 use Rattle.text.specs.Lines.{ascii}
 use Rattle.text.proofs.Lengths.{line-short}
+use Rattle.transcript_text.specs.Limits.{maxCoins, maxMessageWords}
 use Rattle.transcript_text.specs.Transcript.{wordOf, messagesText}
 
-times-le : (a k : ℕ) → k ≤ maxExponent → a * k ≤ a * maxExponent
-times-le a k h = mul-le-mul-left a h
-
 module _ (c : List ℕ) (h : LegalCircuit c) where
-  layers-few : (a : ℕ) → layerSum a (exponents c) ≤ length (exponents c) * (a * maxExponent + 1)
+  layers-few : (a : ℕ) → layerSum a (exponents c) ≤ maxDepth * (a * maxExponent + 1)
   layers-few a =
-      subst (λ (n : ℕ). layerSum a (exponents c) ≤ n) (sum-const (a * maxExponent + 1) (exponents c))
-      (sum-le (λ k. k < maxExponent + 1) (λ k. a * k + 1) (λ k. a * maxExponent + 1) (λ k below. omega (arith, times-le a k (omega arith)))
-      (exponents c) (all-below (maxExponent + 1) (exponents c) (h .sized .headed .small)))
+      le-trans
+      (subst (λ (n : ℕ). layerSum a (exponents c) ≤ n) (sum-const (a * maxExponent + 1) (exponents c))
+      (sum-le (λ k. k < maxExponent + 1) (λ k. a * k + 1) (λ k. a * maxExponent + 1)
+      (λ k below. let most : a * k ≤ a * maxExponent = mul-le-mul-left a (omega arith) in omega arith) (exponents c)
+      (all-below (maxExponent + 1) (exponents c) (h .sized .headed .small))))
+      (mul-le-mul-right (a * maxExponent + 1) (omega (arith, deep c h, h .sized .headed .shallow)))
 
-  pub rounds-few : length (rounds c) ≤ 272
-  rounds-few = omega (arith, as-many c, sum-coins c, layers-few 2, deep c h, h .sized .headed .shallow)
+  pub coins-few : coinCount c ≤ maxCoins
+  coins-few = omega (arith, sum-coins c, layers-few 2)
 
-  pub words-few : messageWords c ≤ 912
-  words-few = omega (arith, sum-words c, layers-few 7, deep c h, h .sized .headed .shallow)
+  pub words-few : messageWords c ≤ maxMessageWords
+  words-few = omega (arith, sum-words c, layers-few 7)
 
 -- a line's word is short
 word-short : (c : List ℕ) (r : Place) → length (wordOf c r) ≤ 4

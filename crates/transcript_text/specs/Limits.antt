@@ -1,8 +1,16 @@
--- The limit of what the program `transcript` prints.
+-- The limits of what the program `transcript` prints.
 -- Assumes nothing.
-use Prim.Native.Nat.{ℕ}
+use Prim.Native.Nat.{ℕ, _+_, _*_}
+use Rattle.circuit.specs.Limits.{maxDepth, maxExponent}
 
--- The longest text: 17 bytes for the output's line, for each of 272 rounds a word and a line's end, and for each of 912 message words a
--- space and ten digits.
+-- the coins of the largest circuit, one for each round, and its message words
+abbrev pub maxCoins : ℕ
+maxCoins = maxDepth * (2 * maxExponent + 1)
+
+abbrev pub maxMessageWords : ℕ
+maxMessageWords = maxDepth * (7 * maxExponent + 1)
+
+-- The longest text: 17 bytes for the output's line, for each round a word of at most four letters and a line's end, and for each message
+-- word a space and ten digits.
 abbrev pub maxText : ℕ
-maxText = 11409
+maxText = 17 + 5 * maxCoins + 11 * maxMessageWords

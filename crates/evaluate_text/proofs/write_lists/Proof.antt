@@ -38,25 +38,18 @@ same-length c = search needs
 
 returns : tie.Need-returns
 returns c =
-    let a = c .before .before .before .before .before .before .before .before .before .before .before .before .before .args in
-    let call = c .before .before .before .before .before .before .before .before .evaluate in
-    let told = c .before .before .before .before .before .evaluated .given in
-    let answer = sym (ap evaluationOf (told .1)) ∙ call .ensures .answer in
+    let q = c .before .before .before .before .before in
     wrote-as _ _ _ _ (c .before .before .write-refused .ensures) _
-    (printed-refused (a .circuit .now) (a .input .now) _ (omega arith) _ answer)
+    (printed-refused _ _ _ (omega arith) _ (sym (ap evaluationOf (q .evaluated .given .1)) ∙ q .before .before .before .evaluate .ensures .answer))
 
 same-length-2 : tie.Need-same-length-2
 same-length-2 c = search needs
 
 returns-2 : tie.Need-returns-2
 returns-2 c =
-    let evaluate = c .before .before .before .before .before .before .before .before .before .before in
-    let a = evaluate .before .before .before .before .before .args in
-    let call = c .before .before .before .before .before .before .before .before .before .before .evaluate in
-    let told = c .before .before .before .before .before .before .before .evaluated2 .given in
-    let answer = sym (ap evaluationOf (told .1)) ∙ call .ensures .answer in
+    let q = c .before .before .before .before .before .before .before in
     wrote-as _ _ _ _ (c .before .before .put-line .ensures) _
-    (printed-output (a .circuit .now) (a .input .now) _ (omega arith) (told .0 .0) answer)
+    (printed-output _ _ _ (omega arith) _ (sym (ap evaluationOf (q .evaluated2 .given .1)) ∙ q .before .before .before .evaluate .ensures .answer))
 
 pub write-lists-spec : {M : Type 1} → statement M
 write-lists-spec =

@@ -6,9 +6,18 @@ use lib.Seq.{length-take-le}
 use borrow.Author.Needs.{needs}
 use Rattle.prover.specs.Answers.{provedOf}
 use Rattle.text.proofs.Writing.{wrote-as}
-use Rattle.transcript_text.proofs.Answers.{printed-refused, printed-proved}
+use Rattle.transcript_text.proofs.Answers.{Printed, printed-refused, printed-proved}
 use Rattle.transcript_text.proofs.write_lists.Statement.{statement}
 use Rattle.transcript_text.proofs.write_lists.Tie as tie
+
+-- what the prover wrote, where it answers a proof
+written : (q : tie.After-proved2)
+    → let a = q .before .before .before .before .before .before .before .before .before .args in
+    let p = q .proved2 .given .0 .0 in
+    Printed (a .circuit .now) (a .input .now) (a .coins .now) (p .output) (p .words) (q .before .before .before .prove .last .1 .1 .1 .0)
+written q =
+    let call = q .before .before .before .prove in
+    printed-proved _ _ _ _ (omega arith) _ _ _ (sym (ap provedOf (q .proved2 .given .1)) ∙ call .ensures .answer) (call .ensures .buffer)
 
 slice-aggregate-prove : tie.Need-slice-aggregate-prove
 slice-aggregate-prove c = search needs
@@ -26,68 +35,31 @@ enum-known-proved-2 : tie.Need-enum-known-proved-2
 enum-known-proved-2 c = search needs
 
 array-share-prefix-messages : tie.Need-array-share-prefix-messages
-array-share-prefix-messages c =
-    let a = c .before .before .before .before .before .before .before .before .before .before .args in
-    let call = c .before .before .before .before .prove in
-    let told = c .before .proved2 .given in
-    let p = told .0 .0 in
-    let answer = sym (ap provedOf (told .1)) ∙ call .ensures .answer in
-    let printed =
-    printed-proved (a .circuit .now) (a .input .now) (a .coins .now) _ (omega arith) (p .output) (p .words) _ answer
-    (call .ensures .buffer) in
-    printed .inside
+array-share-prefix-messages c = written (c .before) .inside
 
 slice-aggregate-write-proof : tie.Need-slice-aggregate-write-proof
-slice-aggregate-write-proof c =
-    let a = c .before .before .before .before .before .before .before .before .before .before .before .args in
-    let call = c .before .before .before .before .before .prove in
-    let told = c .before .before .proved2 .given in
-    let p = told .0 .0 in
-    let answer = sym (ap provedOf (told .1)) ∙ call .ensures .answer in
-    let printed =
-    printed-proved (a .circuit .now) (a .input .now) (a .coins .now) _ (omega arith) (p .output) (p .words) _ answer
-    (call .ensures .buffer) in
-    sym (length-take-le (p .words) _ (printed .inside))
+slice-aggregate-write-proof c = sym (length-take-le _ _ (written (c .before .before) .inside))
 
 write-proof-requires : tie.Need-write-proof-requires
 write-proof-requires c κs =
-    let a = c .before .before .before .before .before .before .before .before .before .before .before .before .args in
-    let call = c .before .before .before .before .before .before .prove in
-    let told = c .before .before .before .proved2 .given in
-    let p = told .0 .0 in
-    let answer = sym (ap provedOf (told .1)) ∙ call .ensures .answer in
-    let printed =
-    printed-proved (a .circuit .now) (a .input .now) (a .coins .now) _ (omega arith) (p .output) (p .words) _ answer
-    (call .ensures .buffer) in
-    (printed .legal, printed .words)
+    let w = written (c .before .before .before) in
+    (w .legal, w .words)
 
 same-length : tie.Need-same-length
 same-length c = search needs
 
 returns : tie.Need-returns
 returns c =
-    let a = c .before .before .before .before .before .before .before .before .before .before .before .before .before .before .args in
-    let call = c .before .before .before .before .before .before .before .before .prove in
-    let told = c .before .before .before .before .before .proved .given in
-    let answer = sym (ap provedOf (told .1)) ∙ call .ensures .answer in
+    let q = c .before .before .before .before .before in
     wrote-as _ _ _ _ (c .before .before .write-refused .ensures) _
-    (printed-refused (a .circuit .now) (a .input .now) (a .coins .now) _ (omega arith) _ answer)
+    (printed-refused _ _ _ _ (omega arith) _ (sym (ap provedOf (q .proved .given .1)) ∙ q .before .before .before .prove .ensures .answer))
 
 same-length-2 : tie.Need-same-length-2
 same-length-2 c = search needs
 
 returns-2 : tie.Need-returns-2
 returns-2 c =
-    let prove = c .before .before .before .before .before .before .before .before .before in
-    let a = prove .before .before .before .before .before .before .args in
-    let call = prove .prove in
-    let told = c .before .before .before .before .before .before .proved2 .given in
-    let p = told .0 .0 in
-    let answer = sym (ap provedOf (told .1)) ∙ call .ensures .answer in
-    let printed =
-    printed-proved (a .circuit .now) (a .input .now) (a .coins .now) _ (omega arith) (p .output) (p .words) _ answer
-    (call .ensures .buffer) in
-    wrote-as _ _ _ _ (c .before .before .write-proof .ensures) _ (printed .text)
+    wrote-as _ _ _ _ (c .before .before .write-proof .ensures) _ (written (c .before .before .before .before .before .before) .text)
 
 pub write-lists-spec : {M : Type 1} → statement M
 write-lists-spec =

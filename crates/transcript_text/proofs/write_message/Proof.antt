@@ -1,12 +1,21 @@
 -- `write_message` meets its contract: the line has the word of its round.
 -- Assumes nothing.
-use mathlib.Core.Path.{sym, ap, _∙_}
+use mathlib.Core.Path.{_≡_, sym, _∙_}
 use mathlib.Core.Bool.{Bool, cond}
 use borrow.Author.Needs.{needs}
+use Rattle.protocol.specs.Rounds.{place}
 use Rattle.text.specs.Lines.{ascii, lineText}
 use Rattle.text.proofs.Writing.{wrote-as}
+use Rattle.transcript_text.specs.Transcript.{wordOf}
 use Rattle.transcript_text.proofs.write_message.Statement.{statement}
 use Rattle.transcript_text.proofs.write_message.Tie as tie
+
+-- a line whose word is the one that the test tells
+worded : (o : tie.After-is-line) (b : Bool) → o .is-line .result ≡ b
+    → let a = o .before .before .before .before .args in
+    lineText (cond b (ascii "line") (ascii "sum")) (a .message .now)
+    ≡ lineText (wordOf (a .circuit .now) (place (a .layer) (a .round))) (a .message .now)
+worded o b e = rw (sym e ∙ o .is-line .ensures)
 
 is-line-requires : tie.Need-is-line-requires
 is-line-requires c κs = search needs
@@ -22,11 +31,8 @@ same-length c = search needs
 
 returns : tie.Need-returns
 returns c =
-    let a = c .before .before .before .before .before .before .before .before .before .before .args in
     let test = c .before .before .before .before .before in
-    let which = sym (test .if1 .taken) ∙ test .before .is-line .ensures in
-    wrote-as _ _ _ _ (c .before .before .put-line .ensures) _
-    (ap (λ (b : Bool). lineText (cond b (ascii "line") (ascii "sum")) (a .message .now)) which)
+    wrote-as _ _ _ _ (c .before .before .put-line .ensures) _ (worded (test .before) _ (test .if1 .taken))
 
 slice-aggregate-put-line-2 : tie.Need-slice-aggregate-put-line-2
 slice-aggregate-put-line-2 c = search needs
@@ -39,11 +45,8 @@ same-length-2 c = search needs
 
 returns-2 : tie.Need-returns-2
 returns-2 c =
-    let a = c .before .before .before .before .before .before .before .before .before .before .args in
     let test = c .before .before .before .before .before in
-    let which = sym (test .if1 .left) ∙ test .before .is-line .ensures in
-    wrote-as _ _ _ _ (c .before .before .put-line2 .ensures) _
-    (ap (λ (b : Bool). lineText (cond b (ascii "line") (ascii "sum")) (a .message .now)) which)
+    wrote-as _ _ _ _ (c .before .before .put-line2 .ensures) _ (worded (test .before) _ (test .if1 .left))
 
 pub write-message-spec : {M : Type 1} → statement M
 write-message-spec =

@@ -4,6 +4,7 @@ use Prim.Native.Nat.{ℕ, _+_, _-_, _*_, _≤_, _<_}
 use mathlib.Core.Path.{_≡_, refl, ap, subst}
 use mathlib.Core.List.{List}
 use native.Mathlib.Omega.{arith}
+use lib.ListN.{length}
 use borrow.Author.Needs.{needs}
 use Rattle.circuit.specs.Circuit.{depth, exponentAt}
 use Rattle.text.proofs.Writing.{wrote-within, wrote-room, wrote-length, wrote-more}
@@ -28,25 +29,54 @@ Inv-loop circuit messages text₀ at₀ to₀ layer₀ layer-end text at to laye
 abbrev μ-loop : tie.MeasureT-loop
 μ-loop circuit messages text₀ at₀ to₀ layer₀ layer-end text at to layer = layer-end - layer
 
-shared-slice-read-layer-end :
-    tie.Need-shared-slice-read-layer-end Inv-loop2 μ-loop2 Inv-loop μ-loop
-shared-slice-read-layer-end c =
-    let long = c .before .before .before .before .pre .0 .sized .headed .long in
-    omega arith
+-- where the outer loop stands
+abbrev Layer : Type 0
+Layer = tie.At-loop Inv-loop2 μ-loop2 Inv-loop μ-loop
+
+abbrev start : Layer → tie.Start Inv-loop2 μ-loop2 Inv-loop μ-loop
+start o = o .before .before .before .before .before
+
+-- where the inner loop stands: what holds of it before the layer's rounds is the outer loop's
+abbrev Round : Type 0
+Round = tie.At-loop2 Inv-loop2 μ-loop2 Inv-loop μ-loop
+
+abbrev layer : Round → Layer
+layer r = r .before .before .before
+
+here : (r : Round) → let a = start (layer r) .args in
+    BeforeRound (a .circuit .now) (a .messages .now) (a .text .now) (r .loop2 .text) (r .loop2 .at) (r .loop2 .to) (layer r .loop .layer) (r .loop2 .round)
+here r = r .loop2 .inv .1 _ (layer r .loop .inv .1)
+
+within : (r : Round) → r .loop2 .to ≤ length (r .loop2 .text)
+within r = wrote-within _ _ _ _ (here r .stands .left .wrote)
+
+-- a turn of it
+abbrev Turn : Type 0
+Turn = tie.In-loop2 Inv-loop2 μ-loop2 Inv-loop μ-loop
+
+more : (t : Turn) → t .before .loop2 .round < 2 * exponentAt (start (layer (t .before)) .args .circuit .now) (layer (t .before) .loop .layer) + 1
+more t = subst (λ (i : ℕ). t .before .loop2 .round < i) (t .before .loop2 .inv .0) (t .loop2-test .taken)
+
+-- the message's words are there
+fits : (m : tie.After-message-length Inv-loop2 μ-loop2 Inv-loop μ-loop)
+    → m .before .before .loop2 .at + m .message-length .result ≤ length (start (layer (m .before .before)) .args .messages .now)
+fits m =
+    let r = m .before .before in
+    omega (arith, words-there _ _ _ (start (layer r) .pre .0) _ _ _ _ _ (here r) (more (m .before)), m .message-length .ensures)
+
+shared-slice-read-layer-end : tie.Need-shared-slice-read-layer-end Inv-loop2 μ-loop2 Inv-loop μ-loop
+shared-slice-read-layer-end c = let long = c .before .before .before .before .pre .0 .sized .headed .long in omega arith
 
 cast-layer-end : tie.Need-cast-layer-end Inv-loop2 μ-loop2 Inv-loop μ-loop
-cast-layer-end c =
-    let long = c .before .before .before .before .pre .0 .sized .headed .long in
-    search needs
+cast-layer-end c = let long = c .before .before .before .before .pre .0 .sized .headed .long in search needs
 
 add-layer-end : tie.Need-add-layer-end Inv-loop2 μ-loop2 Inv-loop μ-loop
 add-layer-end c = search needs
 
 loop-holds : tie.Need-loop-holds Inv-loop2 μ-loop2 Inv-loop μ-loop
 loop-holds c =
-    let start = c .before .before .before .before in
-    let a = start .args in
-    (refl, lines-start (a .circuit .now) (a .messages .now) (a .text .now) (start .pre .0) (start .pre .1))
+    let begin = c .before .before .before .before in
+    (refl, lines-start _ _ _ (begin .pre .0) (begin .pre .1))
 
 exponent-requires : tie.Need-exponent-requires Inv-loop2 μ-loop2 Inv-loop μ-loop
 exponent-requires c κs = search needs
@@ -62,44 +92,19 @@ add-round-end c = search needs
 
 loop2-holds : tie.Need-loop2-holds Inv-loop2 μ-loop2 Inv-loop μ-loop
 loop2-holds c =
-    let over = c .before .before .loop in
-    let start = c .before .before .before .before .before .before .before in
-    let a = start .args in (
+    let o = c .before .before in (
       ap (λ (k : ℕ). 2 * k + 1) (c .exponent .ensures),
-      λ before b. layer-starts (a .circuit .now) (a .messages .now) before (start .pre .0) (over .text) (over .at) (over .to) (over .layer)
-          b (omega (arith, over .inv .0, c .before .loop-test .taken)),
+      λ before b. layer-starts _ _ before (start o .pre .0) _ _ _ _ b (omega (arith, o .loop .inv .0, c .before .loop-test .taken)),
     )
 
 message-length-requires : tie.Need-message-length-requires Inv-loop2 μ-loop2 Inv-loop μ-loop
 message-length-requires c κs = search needs
 
 add-end : tie.Need-add-end Inv-loop2 μ-loop2 Inv-loop μ-loop
-add-end c =
-    let at = c .before .before .loop2 in
-    let over = c .before .before .before .before .before .loop in
-    let start = c .before .before .before .before .before .before .before .before .before .before in
-    let l = start .args .circuit .now in
-    let ms = start .args .messages .now in
-    let first = start .args .text .now in
-    let here = at .inv .1 first (over .inv .1) in
-    let more = subst (λ (i : ℕ). at .round < i) (at .inv .0) (c .before .loop2-test .taken) in
-    let room = words-there l ms first (start .pre .0) (at .text) (at .at) (at .to) (over .layer) (at .round) here more in
-    let wide = c .message-length .ensures in
-    search needs
+add-end c = let room = fits c in search needs
 
 mul-write-message : tie.Need-mul-write-message Inv-loop2 μ-loop2 Inv-loop μ-loop
-mul-write-message c =
-    let at = c .before .before .loop2 in
-    let over = c .before .before .before .before .before .loop in
-    let start = c .before .before .before .before .before .before .before .before .before .before in
-    let l = start .args .circuit .now in
-    let ms = start .args .messages .now in
-    let first = start .args .text .now in
-    let here = at .inv .1 first (over .inv .1) in
-    let more = subst (λ (i : ℕ). at .round < i) (at .inv .0) (c .before .loop2-test .taken) in
-    let room = words-there l ms first (start .pre .0) (at .text) (at .at) (at .to) (over .layer) (at .round) here more in
-    let wide = c .message-length .ensures in
-    search needs
+mul-write-message c = let room = fits c in search needs
 
 sub-write-message : tie.Need-sub-write-message Inv-loop2 μ-loop2 Inv-loop μ-loop
 sub-write-message c = search needs
@@ -108,61 +113,24 @@ part-write-message-start : tie.Need-part-write-message-start Inv-loop2 μ-loop2 
 part-write-message-start c = search needs
 
 part-write-message-end : tie.Need-part-write-message-end Inv-loop2 μ-loop2 Inv-loop μ-loop
-part-write-message-end c =
-    let at = c .before .before .loop2 in
-    let over = c .before .before .before .before .before .loop in
-    let start = c .before .before .before .before .before .before .before .before .before .before in
-    let l = start .args .circuit .now in
-    let ms = start .args .messages .now in
-    let first = start .args .text .now in
-    let here = at .inv .1 first (over .inv .1) in
-    let more = subst (λ (i : ℕ). at .round < i) (at .inv .0) (c .before .loop2-test .taken) in
-    let room = words-there l ms first (start .pre .0) (at .text) (at .at) (at .to) (over .layer) (at .round) here more in
-    let wide = c .message-length .ensures in
-    search needs
+part-write-message-end c = let room = fits c in search needs
 
 sub-write-message-2 : tie.Need-sub-write-message-2 Inv-loop2 μ-loop2 Inv-loop μ-loop
-sub-write-message-2 c =
-    let at = c .before .before .before .loop2 in
-    let over = c .before .before .before .before .before .before .loop in
-    let start = c .before .before .before .before .before .before .before .before .before .before .before in
-    let first = start .args .text .now in
-    let here = at .inv .1 first (over .inv .1) in
-    let within = wrote-within _ _ _ _ (here .stands .left .wrote) in
-    search needs
+sub-write-message-2 c = let room = within (c .before .before .before) in search needs
 
 part-write-message-start-2 : tie.Need-part-write-message-start-2 Inv-loop2 μ-loop2 Inv-loop μ-loop
-part-write-message-start-2 c =
-    let at = c .before .before .before .loop2 in
-    let over = c .before .before .before .before .before .before .loop in
-    let start = c .before .before .before .before .before .before .before .before .before .before .before in
-    let first = start .args .text .now in
-    let here = at .inv .1 first (over .inv .1) in
-    let within = wrote-within _ _ _ _ (here .stands .left .wrote) in
-    search needs
+part-write-message-start-2 c = let room = within (c .before .before .before) in search needs
 
 part-write-message-end-2 : tie.Need-part-write-message-end-2 Inv-loop2 μ-loop2 Inv-loop μ-loop
-part-write-message-end-2 c =
-    let at = c .before .before .before .loop2 in
-    let over = c .before .before .before .before .before .before .loop in
-    let start = c .before .before .before .before .before .before .before .before .before .before .before in
-    let first = start .args .text .now in
-    let here = at .inv .1 first (over .inv .1) in
-    let within = wrote-within _ _ _ _ (here .stands .left .wrote) in
-    search needs
+part-write-message-end-2 c = let room = within (c .before .before .before) in search needs
 
 write-message-requires : tie.Need-write-message-requires Inv-loop2 μ-loop2 Inv-loop μ-loop
 write-message-requires c κs = search needs
 
 add-to : tie.Need-add-to Inv-loop2 μ-loop2 Inv-loop μ-loop
 add-to c =
-    let at = c .before .before .before .before .before .before .before .loop2 in
-    let over = c .before .before .before .before .before .before .before .before .before .before .loop in
-    let start = c .before .before .before .before .before .before .before .before .before .before .before .before .before .before .before in
-    let first = start .args .text .now in
-    let here = at .inv .1 first (over .inv .1) in
-    let line = wrote-more _ _ _ _ (here .stands .left .wrote) _ _ _ (c .before .before .write-message .ensures) in
-    let room = wrote-room _ _ _ _ line in
+    let r = c .before .before .before .before .before .before .before in
+    let room = wrote-room _ _ _ _ (wrote-more _ _ _ _ (here r .stands .left .wrote) _ _ _ (c .before .before .write-message .ensures)) in
     search needs
 
 add-round : tie.Need-add-round Inv-loop2 μ-loop2 Inv-loop μ-loop
@@ -173,47 +141,35 @@ loop2-less c = search needs
 
 loop2-again : tie.Need-loop2-again Inv-loop2 μ-loop2 Inv-loop μ-loop
 loop2-again c =
-    let at = c .before .before .before .before .before .before .before .loop2 in
-    let over = c .before .before .before .before .before .before .before .before .before .before .loop in
-    let start = c .before .before .before .before .before .before .before .before .before .before .before .before .before .before .before in
-    let l = start .args .circuit .now in
-    let more = subst (λ (i : ℕ). at .round < i) (at .inv .0) (c .before .before .before .before .before .before .loop2-test .taken) in
+    let t = c .before .before .before .before .before .before in
+    let r = t .before in
     let wide = c .before .before .before .before .before .message-length in (
-      at .inv .0,
-      λ before b. round-done l (start .args .messages .now) before (start .pre .0) (at .text) (at .at) (at .to) (over .layer) (at .round)
-          (at .inv .1 before b) more (wide .result) (wide .ensures) _ _ (c .before .before .write-message .ensures),
+      r .loop2 .inv .0,
+      λ before b. round-done _ _ before (start (layer r) .pre .0) _ _ _ _ _ (r .loop2 .inv .1 before b) (more t)
+          (wide .result) (wide .ensures) _ _ (c .before .before .write-message .ensures),
     )
 
 add-layer : tie.Need-add-layer Inv-loop2 μ-loop2 Inv-loop μ-loop
-add-layer c =
-    search needs
+add-layer c = search needs
 
 loop-less : tie.Need-loop-less Inv-loop2 μ-loop2 Inv-loop μ-loop
 loop-less c = search needs
 
 loop-again : tie.Need-loop-again Inv-loop2 μ-loop2 Inv-loop μ-loop
 loop-again c =
-    let at = c .before .loop2 in
-    let over = c .before .before .before .before .loop in
-    let start = c .before .before .before .before .before .before .before .before .before in
-    let l = start .args .circuit .now in
-    let first = start .args .text .now in (
+    let r = c .before in (
       refl,
-      layer-ends l (start .args .messages .now) first (start .pre .0) (at .text) (at .at) (at .to) (over .layer) (at .round)
-          (at .inv .1 first (over .inv .1)) (subst (λ (i : ℕ). i ≤ at .round) (at .inv .0) (c .loop2-test .left)),
+      layer-ends _ _ _ (start (layer r) .pre .0) _ _ _ _ _ (here r)
+          (subst (λ (i : ℕ). i ≤ r .loop2 .round) (r .loop2 .inv .0) (c .loop2-test .left)),
     )
 
 same-length : tie.Need-same-length Inv-loop2 μ-loop2 Inv-loop μ-loop
-same-length c =
-    wrote-length _ _ _ _ (c .before .loop .inv .1 .stands .left .wrote)
+same-length c = wrote-length _ _ _ _ (c .before .loop .inv .1 .stands .left .wrote)
 
 returns : tie.Need-returns Inv-loop2 μ-loop2 Inv-loop μ-loop
 returns c =
-    let at = c .before .loop in
-    let start = c .before .before .before .before .before .before in
-    let a = start .args in
-    lines-end (a .circuit .now) (a .messages .now) (a .text .now) (start .pre .0) (at .text) (at .at) (at .to) (at .layer) (at .inv .1)
-    (omega (arith, at .inv .0, c .loop-test .left))
+    let o = c .before in
+    lines-end _ _ _ (start o .pre .0) _ _ _ _ (o .loop .inv .1) (omega (arith, o .loop .inv .0, c .loop-test .left))
 
 pub write-messages-spec : {M : Type 1} → statement M
 write-messages-spec =

@@ -4,7 +4,8 @@ use mathlib.Core.Path.{sym, ap, _∙_}
 use borrow.Author.Needs.{needs}
 use Rattle.text.proofs.Writing.{wrote-as}
 use Rattle.verifier.specs.Answers.{outcomeOf}
-use Rattle.verdict_text.specs.Verdict.{answerText}
+use Rattle.printing.specs.Printed.{answerText}
+use Rattle.verdict_text.specs.Verdict.{acceptedText}
 use Rattle.verdict_text.proofs.Lists.{printed-cause}
 use Rattle.verdict_text.proofs.write_outcome.Statement.{statement}
 use Rattle.verdict_text.proofs.write_outcome.Tie as tie
@@ -33,7 +34,7 @@ same-length c = search needs
 returns : tie.Need-returns
 returns c =
     let told = c .before .before .before .before .before .before .enum-told .given in
-    wrote-as _ _ _ _ (c .before .before .put-line .ensures) _ (ap (λ o. answerText (outcomeOf o)) (sym (told .1)))
+    wrote-as _ _ _ _ (c .before .before .put-line .ensures) _ (ap (λ o. answerText (outcomeOf o) acceptedText) (sym (told .1)))
 
 same-length-2 : tie.Need-same-length-2
 same-length-2 c = search needs
@@ -42,7 +43,7 @@ returns-2 : tie.Need-returns-2
 returns-2 c =
     let told = c .before .before .before .before .before .outcome .given in
     wrote-as _ _ _ _ (c .before .before .write-refused .ensures) _
-    (printed-cause (told .0 .0) ∙ ap (λ o. answerText (outcomeOf o)) (sym (told .1)))
+    (printed-cause (told .0 .0) ∙ ap (λ o. answerText (outcomeOf o) acceptedText) (sym (told .1)))
 
 pub write-outcome-spec : {M : Type 1} → statement M
 write-outcome-spec =

@@ -6,8 +6,8 @@ use native.Mathlib.Omega.{arith}
 use lib.Seq.{length-take-le}
 use borrow.Author.Needs.{needs}
 use Rattle.text.proofs.Writing.{wrote-as}
-use Rattle.verdict_text.proofs.write_parts.Statement.{statement}
-use Rattle.verdict_text.proofs.write_parts.Tie as tie
+use Rattle.programs.proofs.write_parts.Statement.{statement}
+use Rattle.programs.proofs.write_parts.Tie as tie
 
 add-coins : tie.Need-add-coins
 add-coins c = search needs
