@@ -29,7 +29,7 @@ use Rattle.transcript_text.proofs.Limits.{words-few}
 
 module _ (c input cs : List ℕ) where
   abbrev ms : List ℕ
-  ms = transcript c input (honest c input) cs
+  ms = transcript c (honest c input) cs
 
   -- nothing is refused
   pub record Provable : Type 0 where
@@ -43,7 +43,7 @@ module _ (c input cs : List ℕ) where
       let small = need-none (allBelow (primeOf c) cs) 11 _ (number .1) in
       record {
         legal = legal-lists c input (lists .0) .circuit;
-        words = length-transcript c input (honest c input) (honest-fits c input (lists .0)) cs
+        words = length-transcript c (honest c input) (honest-fits c input (lists .0)) cs
             (eqb-true (length cs) (coinCount c) (number .0), all-below (primeOf c) cs (small .0));
       }
 

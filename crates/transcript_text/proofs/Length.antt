@@ -23,5 +23,5 @@ lists-short c input cs =
     (λ e.
     let p = provable c input cs e in
     let first = line-short (ascii "claim") (value c input ∷ []) in
-    let others = messages-short c (rounds c) (transcript c input (honest c input) cs) in
+    let others = messages-short c (rounds c) (transcript c (honest c input) cs) in
     rw length-append (omega (arith, first, others, p .words, as-many c, coins-few c (p .legal), words-few c (p .legal))))

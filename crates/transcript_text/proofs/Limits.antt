@@ -11,7 +11,7 @@ use Rattle.lists.proofs.Count.{sum-le, sum-const}
 use Rattle.circuit.specs.Limits.{maxDepth, maxExponent}
 use Rattle.circuit.specs.Circuit.{exponents, coinCount, messageWords}
 use Rattle.circuit.specs.Sized.{LegalCircuit}
-use Rattle.circuit.proofs.Sized.{deep}
+use Rattle.circuit.proofs.Sized.{one-output, deep}
 use Rattle.circuit.proofs.Layers.{all-below}
 use Rattle.standing.specs.Standing.{layerSum}
 use Rattle.standing.proofs.Coins.{sum-coins, sum-words}
@@ -33,7 +33,7 @@ module _ (c : List ℕ) (h : LegalCircuit c) where
       (mul-le-mul-right (a * maxExponent + 1) (omega (arith, deep c h, h .sized .headed .shallow)))
 
   pub coins-few : coinCount c ≤ maxCoins
-  coins-few = omega (arith, sum-coins c, layers-few 2)
+  coins-few = omega (arith, sum-coins c, one-output c, layers-few 2)
 
   pub words-few : messageWords c ≤ maxMessageWords
   words-few = omega (arith, sum-words c, layers-few 7)

@@ -11,7 +11,7 @@ use Rattle.lists.specs.Count.{sum}
 use Rattle.lists.proofs.Count.{sum-cons}
 use Rattle.circuit.specs.Circuit.{depth, exponentAt, messageWords}
 use Rattle.circuit.specs.Sized.{LegalCircuit}
-use Rattle.protocol.specs.Rounds.{Place, place, rounds}
+use Rattle.protocol.specs.Rounds.{Place, place, rounds, layerStart}
 use Rattle.protocol.specs.Judge.{messageLength}
 use Rattle.protocol.proofs.Sums.{message-words}
 use Rattle.protocol.proofs.Places.{before-round}
@@ -41,9 +41,9 @@ module _ (c ms before : List ℕ) where
   module _ (legal : LegalCircuit c) where
     pub lines-start : length ms ≡ messageWords c → BeforeLayer before 0 0 1
     lines-start e = record {
-      coins = 0;
+      coins = layerStart c 1;
       stands =
-          loops.loops-start c legal (Left before 0 0)
+          loops.loops-start c legal (Left before 0 0) (layerStart c 1) refl
           (record {
             done = [];
             wrote = wrote-none before;

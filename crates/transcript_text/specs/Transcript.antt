@@ -31,4 +31,4 @@ abbrev pub listsRefusal : List ℕ → List ℕ → List ℕ → ℕ
 listsRefusal c input cs = first (listsCause c input) (needCoins c cs 0)
 
 unfoldable pub listsText : List ℕ → List ℕ → List ℕ → List ℕ
-listsText c input cs = answerText (listsRefusal c input cs) (proofText c (value c input) (transcript c input (honest c input) cs))
+listsText c input cs = answerText (listsRefusal c input cs) (proofText c (value c input) (transcript c (honest c input) cs))
