@@ -12,7 +12,6 @@ use borrow.Author.Tests.{ltb-true, eqb-true}
 use Rattle.lists.specs.Buffer.{over}
 use Rattle.lists.proofs.Buffer.{take-over}
 use Rattle.counting.specs.Coins.{CoinList}
-use Rattle.refusal.specs.Order.{need}
 use Rattle.refusal.proofs.Order.{first-none, need-none}
 use Rattle.circuit.specs.Circuit.{primeOf, outputExponent, coinCount, messageWords}
 use Rattle.circuit.specs.Legal.{allBelow, listsCause}

@@ -16,7 +16,7 @@ use Rattle.lists.specs.Count.{sum}
 use Rattle.lists.proofs.Count.{sum-nil, sum-cons, sum-append}
 use Rattle.lists.proofs.Map.{map-append}
 use Rattle.counting.specs.Coins.{CoinList}
-use Rattle.circuit.specs.Circuit.{primeOf, depth, outputExponent, exponents, exponentAt, coinCount}
+use Rattle.circuit.specs.Circuit.{primeOf, outputExponent, exponents, exponentAt, coinCount}
 use Rattle.circuit.proofs.Sized.{deep}
 use Rattle.walk.specs.Session.{Follows, Chain}
 use Rattle.protocol.specs.Start.{firstPoint, laterCoins}

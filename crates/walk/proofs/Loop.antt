@@ -3,13 +3,12 @@
 use Prim.Native.Nat.{ℕ, suc, _+_, _≤_, _<_}
 use mathlib.Core.Path.{_≡_, refl, sym, ap, ap₂, _∙_}
 use mathlib.Core.List.{List, [], _∷_, _++_, map}
-use native.Mathlib.Nat.{add-zero}
 use native.Mathlib.Numerals.{add-one}
 use native.Mathlib.Omega.{arith}
 use lib.ListN.{length, take, drop, getD}
 use lib.Seq.{take-suc, take-all, drop-cons, drop-drop}
 use Rattle.lists.specs.Count.{sum}
-use Rattle.lists.proofs.Count.{sum-nil, sum-cons}
+use Rattle.lists.proofs.Count.{sum-cons}
 use Rattle.refusal.specs.Order.{first}
 use Rattle.walk.specs.Game.{Game, Comparison, finalCause, walk}
 

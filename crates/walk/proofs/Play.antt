@@ -1,17 +1,16 @@
 -- The walk on a rule's messages; its share of the coin lists from a bad start; its acceptance on all of them from a true one.
 -- Assumes nothing.
-use Prim.Native.Nat.{ℕ, zero, suc, _+_, _-_, _*_, _^_, _≤_, _<_}
+use Prim.Native.Nat.{ℕ, zero, suc, _+_, _-_, _<_}
 use mathlib.Core.Path.{_≡_, refl, sym, ap, _∙_, subst}
-use mathlib.Core.Bool.{Bool, true, false, cond}
+use mathlib.Core.Bool.{Bool, false, cond}
 use mathlib.Core.List.{List, [], _∷_, _++_, map, flatten, append-nil, append-assoc}
 use native.Mathlib.Nat.{suc-inj, suc-ne-zero, not-suc-le-zero, le-of-suc-le-suc}
 use native.Mathlib.Omega.{arith}
-use lib.ListN.{length, length-map, take, drop, getD}
+use lib.ListN.{length, take, drop, getD}
 use lib.Seq.{take-at, drop-at}
-use Rattle.lists.specs.Count.{sum, count, range}
-use Rattle.counting.specs.Coins.{CoinList, passing}
-use Rattle.counting.specs.Doomed.{Doomed, Fails, luckless}
-use Rattle.counting.proofs.Doomed.{doomed-coin, doomed-end, doomed-refused, losses-add, losses-multiply}
+use Rattle.counting.specs.Coins.{CoinList}
+use Rattle.counting.specs.Doomed.{Doomed, Fails}
+use Rattle.counting.proofs.Doomed.{doomed-coin, doomed-end, doomed-refused}
 use Rattle.refusal.specs.Order.{first}
 use Rattle.walk.specs.Game.{Game, Comparison, passes, finalCause, walk}
 use Rattle.walk.specs.Rule.{Rule, Strategy, said, Fits, play, byRule}
