@@ -13,12 +13,13 @@ use Rattle.lists.specs.Each.{All}
 use Rattle.primes.proofs.Prime.{listed-prime}
 use Rattle.refusal.proofs.Order.{first-none}
 use Rattle.algebra.specs.Numbers.{Numbers, words}
-use Rattle.circuit.specs.Gate.{Gate, operate, gateValue}
+use Rattle.circuit.specs.Gate.{Gate, gateValue}
 use Rattle.circuit.specs.Circuit.{primeOf, depth, exponents, exponentAt, outputExponent, gatesStart, gatesOf, layersOf, gateLayers, gatesAt, inputExponent}
 use Rattle.circuit.specs.Legal.{allBelow, gateCause, gatesCause, layersCause, listsCause}
 use Rattle.circuit.specs.Sized.{LegalCircuit}
 use Rattle.circuit.specs.Values.{layersFrom, layers, valuesAt, value}
 use Rattle.circuit.specs.Theorems.{LegalPrime, ValuesAreResidues, LayerSizes, LastLayer, LayerByLayer, WiresBelow, OutputLayer}
+use Rattle.circuit.proofs.Operate.{operate-below}
 use Rattle.circuit.proofs.Sized.{one-output, deep}
 use Rattle.circuit.proofs.Loading.{split-true, legal-circuit, legal-lists}
 use Rattle.circuit.proofs.Legal.{gate-wires, length-gates}
@@ -40,12 +41,6 @@ below-all p [] h = refl
 below-all p (w ∷ ws) h = ap₂ (λ (a b : Bool). a && b) (lt-ltb w p (h .0)) (below-all p ws (h .1))
 
 -- VALUES
-pub operate-below : (p : ℕ) → 0 < p → (kind x y : ℕ) → operate (words p) kind x y < p
-operate-below p pos zero x y = pos
-operate-below p pos (suc zero) x y = mod-lt (x + y) pos
-operate-below p pos (suc (suc zero)) x y = mod-lt (x * y) pos
-operate-below p pos (suc (suc (suc kind))) x y = pos
-
 values-below : (p : ℕ) → 0 < p → (next : List ℕ) (gs : List Gate) → All (λ v. v < p) (map (gateValue (words p) next) gs)
 unfolding gateValue
 values-below p pos next [] = tt

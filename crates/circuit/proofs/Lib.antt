@@ -1,3 +1,4 @@
+pub mod Operate
 pub mod Legal
 pub mod Sized
 pub mod Loading

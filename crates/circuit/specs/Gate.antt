@@ -1,8 +1,8 @@
 -- Gates and their values.
 -- Assumes nothing.
 use Prim.Native.Nat.{ℕ, zero, suc}
-use mathlib.Core.List.{List}
-use lib.ListN.{getD}
+use mathlib.Core.List.{List, [], _∷_}
+use lib.ListN.{length, getD}
 use Rattle.algebra.specs.Numbers.{Numbers}
 
 -- "three words each: kind, left, right"
@@ -13,6 +13,14 @@ pub record Gate : Type 0 where
 
 abbrev pub gate : ℕ → ℕ → ℕ → Gate
 gate kind left right = record { kind = kind; left = left; right = right }
+
+-- "Kind 1 adds, kind 2 multiplies": the kinds that do something with two values
+abbrev pub kinds : List ℕ
+kinds = 1 ∷ 2 ∷ []
+
+-- they are numbered from 1 on, so the last number is how many they are
+abbrev pub maxKind : ℕ
+maxKind = length kinds
 
 module _ {C : Type 0} (N : Numbers C) where
   -- "Kind 0 is empty: value 0 .. Kind 1 adds, kind 2 multiplies"; no other kind is legal

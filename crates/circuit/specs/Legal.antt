@@ -8,7 +8,7 @@ use lib.ListN.{length}
 use Rattle.primes.specs.Prime.{isListed}
 use Rattle.refusal.specs.Order.{need, first}
 use Rattle.circuit.specs.Limits.{maxDepth, maxExponent}
-use Rattle.circuit.specs.Gate.{Gate}
+use Rattle.circuit.specs.Gate.{Gate, maxKind}
 use Rattle.circuit.specs.Circuit.{primeOf, depth, exponents, gateLayers, wordCount, inputCount}
 
 unfoldable pub allBelow : ℕ → List ℕ → Bool
@@ -31,7 +31,7 @@ wiresGood next g =
 
 -- "then by the first bad gate: 6 kind above 2; 7" its wires
 unfoldable pub gateCause : ℕ → Gate → ℕ
-gateCause next g = need (leb (g .kind) 2) 6 (need (wiresGood next g) 7 0)
+gateCause next g = need (leb (g .kind) maxKind) 6 (need (wiresGood next g) 7 0)
 
 unfoldable pub gatesCause : ℕ → List Gate → ℕ
 gatesCause next [] = 0

@@ -5,7 +5,7 @@ ghost use mathlib.Core.Path.{_≡_};
 ghost use Rattle.field.specs.Modulus.{numbers};
 ghost use Rattle.multilinear.specs.Extension.{weight, between, halving};
 
-// The coordinates of a point of the widest layer.
+// The words of a row, which holds a point's coordinates at its front.
 pub const MAX_COORDINATES: usize = 8;
 
 // (1 - z) × low + z × high, by one product: low + z × (high - low)

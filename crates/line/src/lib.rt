@@ -8,11 +8,11 @@ ghost use mathlib.Core.List.{[]};
 ghost use lib.ListN.{length, take, getD};
 ghost use Rattle.lists.specs.Buffer.{over};
 ghost use Rattle.field.specs.Modulus.{numbers};
-ghost use Rattle.circuit.specs.Limits.{maxExponent};
+ghost use Rattle.extension.specs.Limits.{rowLength};
 ghost use Rattle.sumcheck.specs.Line.{along, lineHalving};
 ghost use Rattle.line.specs.Row.{padded};
 
-// The coefficients of a line along the widest layer.
+// The coefficients of a line between points that fill their rows.
 pub const MAX_COEFFICIENTS: usize = 9;
 
 // The one coefficient of a line with no coordinate: the first value.
@@ -46,7 +46,7 @@ fn along(f: Field, x: u32, d: u32, row: &mut [u32], high: &[u32])
 // The coefficients along the line from u to v, at the front of the row, from those of the values' halves; the number of coordinates that
 // remain falls. A single coordinate needs no further call.
 fn halves(f: Field, values: &[u32], u: &[u32], v: &[u32], row: &mut [u32])
-    requires { ⌜ (length (now u) ≡ length (now v)) × (length (now u) ≤ maxExponent) × (length (now u) < length (now row)) ⌝ }
+    requires { ⌜ (length (now u) ≡ length (now v)) × (length (now u) ≤ rowLength) × (length (now u) < length (now row)) ⌝ }
     ensures { λ _. ⌜ now (row .exit) ≡ over (lineHalving (numbers f) (now (values .entry)) (now (u .entry)) (now (v .entry))) (now (row .entry)) ⌝ }
 {
     let m = u.len();

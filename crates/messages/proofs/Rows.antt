@@ -29,7 +29,7 @@ use Rattle.sumcheck.specs.Gatewise.{sumByGates}
 use Rattle.sumcheck.proofs.Words.{sum-message-words, line-message-words}
 use Rattle.sumcheck.proofs.Line.{line-by-halves, length-lineHalving}
 use Rattle.summand.specs.Gates.{gatesIn}
-use Rattle.tables.specs.Table.{maxWidth}
+use Rattle.tables.specs.Limits.{tableWidth}
 use Rattle.line.specs.Row.{padded}
 use Rattle.line.proofs.Parts.{take-front}
 use Rattle.sums.specs.Round.{fixedFirst, fixedSecond}
@@ -140,14 +140,14 @@ module _ (c : List ℕ) (layer round : ℕ) (past vs buffer : List ℕ) (h : Wri
     rows = s .u ∷ s .v ∷ []
 
     pub sum-words : isLine c (place layer round) ≡ false → (r : List ℕ)
-        → r ≡ sumByGates (words (primeOf c)) (min (s .own) maxExponent) (gatesIn (take (s .to - s .from) (drop (s .from) c))) (take (s .above) (s .point)) (take maxWidth vs) (fixedFirst (min (s .own) maxExponent) round rows) (fixedSecond (min (s .own) maxExponent) round rows)
+        → r ≡ sumByGates (words (primeOf c)) (min (s .own) maxExponent) (gatesIn (take (s .to - s .from) (drop (s .from) c))) (take (s .above) (s .point)) (take tableWidth vs) (fixedFirst (min (s .own) maxExponent) round rows) (fixedSecond (min (s .own) maxExponent) round rows)
         → r ≡ messageFrom c vs (place layer round) past
     sum-words nl r e =
         let N = words (primeOf c) in
         let k : ℕ = exponentAt c layer in
         let xs : List ℕ = fixed c layer past in
         let ms : ℕ → List Gate → List ℕ → List ℕ =
-        λ k gs z. sumByGates N (min k maxExponent) gs z (take maxWidth vs) (fixedFirst (min k maxExponent) round rows) (fixedSecond (min k maxExponent) round rows) in
+        λ k gs z. sumByGates N (min k maxExponent) gs z (take tableWidth vs) (fixedFirst (min k maxExponent) round rows) (fixedSecond (min k maxExponent) round rows) in
         let size : length xs ≡ round = own-coins c layer round past here in
         let small : k ≤ maxExponent = own-small c layer round past here in
         let reached : round ≤ 2 * k = here .reached in

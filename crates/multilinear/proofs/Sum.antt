@@ -75,3 +75,17 @@ module _ {C : Type 0} {N : Numbers C} (R : Ring N) {A : Type 0} where
       let e : suc a + length l ≡ a + suc (length l) = omega arith in
       ap (λ (y : C). f a x ⊕ y) (sumFrom-append f (suc a) l m ∙ ap (λ (i : ℕ). sumFrom N f (suc a) l ⊕ sumFrom N f i m) e)
       ∙ sym (R .add-assoc (f a x) (sumFrom N f (suc a) l) (sumFrom N f (a + suc (length l)) m))
+
+  none : (a : ℕ) (l : List A) → sumFrom N (λ i x. 𝟘) a l ≡ 𝟘
+  unfolding sumFrom
+  none a [] = refl
+  none a (x ∷ l) = zero-add R (sumFrom N (λ i x. 𝟘) (suc a) l) ∙ none (suc a) l
+
+-- a sum of sums, in either order
+pub sumFrom-swap : {C : Type 0} {N : Numbers C} (R : Ring N) {A B : Type 0} (f : ℕ → A → ℕ → B → C) (a b : ℕ) (l : List A) (m : List B)
+    → sumFrom N (λ j y. sumFrom N (λ i x. f i x j y) a l) b m ≡ sumFrom N (λ i x. sumFrom N (f i x) b m) a l
+unfolding sumFrom
+sumFrom-swap R f a b [] m = none R b m
+sumFrom-swap {C} {N} R f a b (x ∷ l) m =
+    sumFrom-add R (f a x) (λ j y. sumFrom N (λ i x. f i x j y) (suc a) l) b m
+    ∙ ap (λ (y : C). N .add (sumFrom N (f a x) b m) y) (sumFrom-swap R f (suc a) b l m)

@@ -16,7 +16,8 @@ use Rattle.algebra.proofs.Polynomial.{length-plus, length-minus, length-times}
 use Rattle.multilinear.specs.Extension.{weight, extension}
 use Rattle.multilinear.specs.Theorems.{degrees}
 use Rattle.multilinear.proofs.Degree.{degrees-append, degrees-halves, degrees-none, constants-short, length-sumFrom, length-weight, degree-bound}
-use Rattle.circuit.specs.Gate.{Gate}
+use Rattle.circuit.specs.Gate.{Gate, kinds}
+use Rattle.circuit.proofs.Operate.{length-operate}
 use Rattle.sumcheck.specs.Summand.{wiring, combined, summand, summandAt, cube, partialSum, linePoint}
 use Rattle.sumcheck.specs.Message.{fit}
 
@@ -37,18 +38,13 @@ module _ {C : Type 0} (N : Numbers C) where
       (length-times N (degrees point + degrees u) (degrees v) _ _
       (length-times N (degrees point) (degrees u) _ _ (length-weight N _ point) (length-weight N _ u)) (length-weight N _ v)))
 
-  length-both : (A M x y : List C) (w d e : ℕ) → length A ≤ suc w → length M ≤ suc w → length x ≤ suc d → length y ≤ suc e
-      → length (plus N (times N A (plus N x y)) (times N (times N M x) y)) ≤ suc (w + (d + e))
-  length-both A M x y w d e hA hM hx hy =
-      let s : length (plus N x y) ≤ suc (d + e) = length-plus N (suc (d + e)) x y (omega arith) (omega arith) in
-      let m : length (times N (times N M x) y) ≤ suc (w + d + e) = length-times N (w + d) e (times N M x) y (length-times N w d M x hM hx) hy in
-      length-plus N (suc (w + (d + e))) (times N A (plus N x y)) (times N (times N M x) y) (length-times N w (d + e) A (plus N x y) hA s) (omega arith)
-
   length-combined : (gs : List Gate) (point u v : List (List C)) (d e : ℕ) (x y : List C) → length x ≤ suc d → length y ≤ suc e
       → length (combined P gs point u v x y) ≤ suc (degrees point + degrees u + degrees v + (d + e))
   unfolding combined
   length-combined gs point u v d e x y hx hy =
-      length-both _ _ x y (degrees point + degrees u + degrees v) d e (length-wiring _ gs point u v) (length-wiring _ gs point u v) hx hy
+      let w : ℕ = degrees point + degrees u + degrees v in
+      length-sumFrom N (suc (w + (d + e))) _ 0 kinds (λ i kind.
+      length-times N w (d + e) _ _ (length-wiring kind gs point u v) (length-operate N kind d e x y hx hy))
 
   pub length-summand : (k : ℕ) (gs : List Gate) (point : List (List C)) (vs : List C) (ws : List (List C))
       → length (summandAt P k gs point (map (constant N) vs) ws) ≤ suc (degrees point + (degrees ws + degrees ws))

@@ -38,10 +38,11 @@ use Rattle.multilinear.proofs.Tables.{listed, weights-kept, folded-kept}
 use Rattle.multilinear.proofs.Hom.{hom-sumFrom, hom-getD}
 use Rattle.multilinear.proofs.Words.{sumFrom-below}
 use Rattle.circuit.specs.Gate.{Gate, operate}
+use Rattle.circuit.proofs.Operate.{hom-operate, linear-left, linear-right}
 use Rattle.sumcheck.specs.Gatewise.{Side, sideOf, share, own, other, coefficients, threeSums, gateShare, gateIsOne, gateOwn, gateOther, sumsOf, sumByGates, InOrder, SumByGates}
 use Rattle.sumcheck.specs.Message.{sumMessage}
 use Rattle.sumcheck.specs.Summand.{partialSum}
-use Rattle.sumcheck.proofs.Hom.{hom-cond, hom-operate, hom-sumMessage}
+use Rattle.sumcheck.proofs.Hom.{hom-cond, hom-sumMessage}
 use Rattle.sumcheck.proofs.Message.{sum-value}
 use Rattle.sumcheck.proofs.Words.{sum-message-words}
 use Rattle.sumcheck.proofs.Layer.{wires, operateAt, reached, partial-gates}
@@ -91,27 +92,22 @@ module _ {C : Type 0} {N : Numbers C} (R : Ring N) where
           (sumFrom N (λ a g. cond (b g) (w a g ⊗ o g) 𝟘) (suc a) gs) (sumFrom N (λ a g. w a g ⊗ (o g ⊖ o′ g)) (suc a) gs) (b g)
           ∙ ap (λ (y : C). counted r w b o o′ a g ⊕ y) (go (suc a) gs)
 
-  -- THE OPERATION is linear in each wire's value
-  none-toward : (t : C) → 𝟘 ≡ 𝟘 ⊕ t ⊗ (𝟘 ⊖ 𝟘)
-  none-toward t = simp ring
+  -- THE OPERATION goes with each wire's value from one value to another, as whatever is linear does
+  toward-linear : (t x x′ s c : C) → toward N t x x′ ⊗ s ⊕ c ≡ toward N t (x ⊗ s ⊕ c) (x′ ⊗ s ⊕ c)
+  unfolding equal
+  toward-linear t x x′ s c =
+      solve R (t ∷ x ∷ x′ ∷ s ∷ c ∷ []) ((var 1 :+ var 0 :* (var 2 :- var 1)) :* var 3 :+ var 4)
+      (var 1 :* var 3 :+ var 4 :+ var 0 :* (var 2 :* var 3 :+ var 4 :- (var 1 :* var 3 :+ var 4))) tt
 
   operate-left : (kind : ℕ) (t x x′ y : C) → operate N kind (toward N t x x′) y ≡ toward N t (operate N kind x y) (operate N kind x′ y)
-  unfolding equal
-  operate-left zero t x x′ y = none-toward t
-  operate-left (suc zero) t x x′ y =
-      solve R (t ∷ x ∷ x′ ∷ y ∷ []) (var 1 :+ var 0 :* (var 2 :- var 1) :+ var 3) (var 1 :+ var 3 :+ var 0 :* (var 2 :+ var 3 :- (var 1 :+ var 3))) tt
-  operate-left (suc (suc zero)) t x x′ y =
-      solve R (t ∷ x ∷ x′ ∷ y ∷ []) ((var 1 :+ var 0 :* (var 2 :- var 1)) :* var 3) (var 1 :* var 3 :+ var 0 :* (var 2 :* var 3 :- var 1 :* var 3)) tt
-  operate-left (suc (suc (suc kind))) t x x′ y = none-toward t
+  operate-left kind t x x′ y =
+      linear-left R kind (toward N t x x′) y ∙ toward-linear t x x′ _ _
+      ∙ sym (ap₂ (toward N t) (linear-left R kind x y) (linear-left R kind x′ y))
 
   operate-right : (kind : ℕ) (t x y y′ : C) → operate N kind x (toward N t y y′) ≡ toward N t (operate N kind x y) (operate N kind x y′)
-  unfolding equal
-  operate-right zero t x y y′ = none-toward t
-  operate-right (suc zero) t x y y′ =
-      solve R (t ∷ x ∷ y ∷ y′ ∷ []) (var 1 :+ (var 2 :+ var 0 :* (var 3 :- var 2))) (var 1 :+ var 2 :+ var 0 :* (var 1 :+ var 3 :- (var 1 :+ var 2))) tt
-  operate-right (suc (suc zero)) t x y y′ =
-      solve R (t ∷ x ∷ y ∷ y′ ∷ []) (var 1 :* (var 2 :+ var 0 :* (var 3 :- var 2))) (var 1 :* var 2 :+ var 0 :* (var 1 :* var 3 :- var 1 :* var 2)) tt
-  operate-right (suc (suc (suc kind))) t x y y′ = none-toward t
+  operate-right kind t x y y′ =
+      linear-right R kind x (toward N t y y′) ∙ toward-linear t y y′ _ _
+      ∙ sym (ap₂ (toward N t) (linear-right R kind x y) (linear-right R kind x y′))
 
   -- A GATE'S TERM, its wires' bits being pre for the coordinates fixed, b for the next one and post
   opened : (k : ℕ) (vs xs : List C) (r : C) (g : Gate) (pre : List Bool) (b : Bool) (post : List Bool) (w o : C)

@@ -13,22 +13,17 @@ use Rattle.algebra.specs.Polynomial.{constant, X, polynomials}
 use Rattle.algebra.proofs.Hom.{hom-add, hom-sub, hom-mul}
 use Rattle.algebra.proofs.Polynomial.{map-hom}
 use Rattle.multilinear.specs.Extension.{extension}
-use Rattle.multilinear.proofs.Hom.{hom-sumFrom, hom-weightOfBits, hom-getD, hom-extension}
-use Rattle.circuit.specs.Gate.{Gate, operate, gateValue}
-use Rattle.sumcheck.specs.Summand.{wiring, combined, summand, summandAt, cube, partialSum, linePoint}
+use Rattle.multilinear.proofs.Hom.{hom-sumFrom, hom-weight, hom-getD, hom-extension}
+use Rattle.circuit.specs.Gate.{Gate, kinds, operate, gateValue}
+use Rattle.circuit.proofs.Operate.{hom-operate}
+use Rattle.sumcheck.specs.Summand.{gateWeight, wiring, combined, summand, summandAt, cube, partialSum, linePoint}
 use Rattle.sumcheck.specs.Message.{fit, sumMessage, lineMessage}
 
 module _ {C D : Type 0} {N : Numbers C} {M : Numbers D} {h : C → D} (H : Hom N M h) where
-  pub hom-operate : (kind : ℕ) (x y : C) → h (operate N kind x y) ≡ operate M kind (h x) (h y)
-  hom-operate zero x y = H .keeps-𝟘
-  hom-operate (suc zero) x y = H .keeps-add x y
-  hom-operate (suc (suc zero)) x y = H .keeps-mul x y
-  hom-operate (suc (suc (suc kind))) x y = H .keeps-𝟘
-
   pub hom-gateValue : (next : List C) (g : Gate) → h (gateValue N next g) ≡ gateValue M (map h next) g
   unfolding gateValue
   hom-gateValue next g =
-      hom-operate (g .kind) (getD next (g .left) (N .𝟘)) (getD next (g .right) (N .𝟘))
+      hom-operate H (g .kind) (getD next (g .left) (N .𝟘)) (getD next (g .right) (N .𝟘))
       ∙ ap₂ (operate M (g .kind)) (hom-getD H next (g .left)) (hom-getD H next (g .right))
 
   pub hom-layer : (next : List C) (gs : List Gate) → map h (map (gateValue N next) gs) ≡ map (gateValue M (map h next)) gs
@@ -39,20 +34,21 @@ module _ {C D : Type 0} {N : Numbers C} {M : Numbers D} {h : C → D} (H : Hom N
   hom-cond true e e′ = e
   hom-cond false e e′ = e′
 
+  hom-gateWeight : (point u v : List C) (a b c : ℕ)
+      → h (gateWeight N point u v a b c) ≡ gateWeight M (map h point) (map h u) (map h v) a b c
+  hom-gateWeight point u v a b c = hom-mul H (hom-mul H (hom-weight H _ point) (hom-weight H _ u)) (hom-weight H _ v)
+
   pub hom-wiring : (kind : ℕ) (gs : List Gate) (point u v : List C)
       → h (wiring N kind gs point u v) ≡ wiring M kind gs (map h point) (map h u) (map h v)
   unfolding wiring
   hom-wiring kind gs point u v =
-      rw (length-map point h, length-map u h, length-map v h)
-      (hom-sumFrom H _ _
-      (λ a g. hom-cond (eqb (g .kind) kind)
-      (hom-mul H (hom-mul H (hom-weightOfBits H _ point) (hom-weightOfBits H _ u)) (hom-weightOfBits H _ v)) (H .keeps-𝟘)) 0 gs)
+      hom-sumFrom H _ _ (λ a g. hom-cond (eqb (g .kind) kind) (hom-gateWeight point u v a (g .left) (g .right)) (H .keeps-𝟘)) 0 gs
 
   pub hom-combined : (gs : List Gate) (point u v : List C) {x y : C} {x′ y′ : D} → h x ≡ x′ → h y ≡ y′
       → h (combined N gs point u v x y) ≡ combined M gs (map h point) (map h u) (map h v) x′ y′
   unfolding combined
   hom-combined gs point u v e f =
-      hom-add H (hom-mul H (hom-wiring _ gs point u v) (hom-add H e f)) (hom-mul H (hom-mul H (hom-wiring _ gs point u v) e) f)
+      hom-sumFrom H _ _ (λ i kind. hom-mul H (hom-wiring kind gs point u v) (hom-operate H kind _ _ ∙ ap₂ (operate M kind) e f)) 0 kinds
 
   pub hom-summand : (gs : List Gate) (point vs u v : List C)
       → h (summand N gs point vs u v) ≡ summand M gs (map h point) (map h vs) (map h u) (map h v)

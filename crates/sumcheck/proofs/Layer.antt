@@ -1,27 +1,30 @@
 -- A partial sum, gate by gate: over {0, 1} the weights of a gate's wires pick the one corner that its wires name, where V has the wires'
 -- values. With no coordinate fixed, what is left is the extension of the gates' values.
 -- Assumes nothing.
-use mathlib.Core.Path.{_≡_, sym, ap, ap₂, _∙_}
-use mathlib.Core.Bool.{Bool, false, cond}
-use mathlib.Core.List.{List, [], _++_, map}
+use mathlib.Core.Path.{_≡_, refl, sym, ap, ap₂, _∙_}
+use mathlib.Core.Logic.{_≢_}
+use mathlib.Core.Bool.{Bool, true, false, cond, _||_}
+use mathlib.Core.List.{List, [], _∷_, _++_, map}
 use Prim.Native.Nat.{ℕ, zero, suc, _+_, _-_, _*_, _^_, _≤_, _<_, zero-le}
 use native.Mathlib.Omega.{arith}
 use lib.Dec.{eqb}
 use lib.ListN.{length, take, drop, length-append, length-drop, take-append-drop}
 use lib.Seq.{length-take-le, take-at, drop-at}
-use borrow.Author.Tests.{ne-eqb}
-use Rattle.lists.specs.Each.{All}
+use borrow.Author.Tests.{ne-eqb, eqb-true}
+use Rattle.lists.specs.Each.{All, Distinct}
 use Rattle.lists.proofs.Map.{map-append}
+use Rattle.primes.specs.Prime.{isOneOf}
 use Rattle.algebra.specs.Numbers.{Numbers}
 use Rattle.algebra.specs.Ring.{Ring}
-use Rattle.algebra.proofs.Ring.{ring}
+use Rattle.algebra.proofs.Ring.{ring, mul-zero}
 use Rattle.multilinear.specs.Extension.{bits, weightOfBits, weight, sumFrom, extension, bit, corner}
 use Rattle.multilinear.proofs.Bits.{length-bits}
-use Rattle.multilinear.proofs.Sum.{sumFrom-same, sumFrom-same-all, sumFrom-scale, sumFrom-add, sumFrom-map}
+use Rattle.multilinear.proofs.Sum.{sumFrom-same, sumFrom-same-all, sumFrom-scale, sumFrom-map, sumFrom-swap}
 use Rattle.multilinear.proofs.Weight.{weight-none, weight-append}
 use Rattle.multilinear.proofs.Extension.{at-corner, length-corner}
-use Rattle.circuit.specs.Gate.{Gate, operate, gateValue}
-use Rattle.sumcheck.specs.Summand.{wiring, combined, summand, summandAt, cube, partialSum}
+use Rattle.circuit.specs.Gate.{Gate, kinds, operate, gateValue}
+use Rattle.circuit.proofs.Operate.{kinds-distinct, operate-listed}
+use Rattle.sumcheck.specs.Summand.{gateWeight, wiring, combined, Formula, summand, summandAt, cube, partialSum}
 use Rattle.sumcheck.proofs.Cube.{cube-same, cube-scale, cube-sumFrom, cube-picks}
 
 -- the bits of both wires of a gate
@@ -41,42 +44,63 @@ module _ {C : Type 0} (N : Numbers C) where
   abbrev pub reached : ℕ → List C → Gate → List C
   reached k xs g = xs ++ corner N (drop (length xs) (wires k g))
 
+none-of : (ks : List ℕ) (kind : ℕ) → All (λ κ. κ ≢ kind) ks → isOneOf ks kind ≡ false
+unfolding isOneOf
+none-of [] kind h = refl
+none-of (κ ∷ ks) kind h = ap₂ _||_ (ne-eqb kind κ (λ e. h .0 (sym e))) (none-of ks kind (h .1))
+
 module _ {C : Type 0} {N : Numbers C} (R : Ring N) where
   open Numbers N using (𝟘, 𝟙, add as _⊕_, mul as _⊗_)
 
   infixl 60 _⊕_
   infixl 70 _⊗_
-  -- THE SUMMAND, gate by gate: a gate has one kind
-  one-kind : (kind : ℕ) (x y w : C)
-      → (x ⊕ y) ⊗ cond (eqb kind 1) w 𝟘 ⊕ x ⊗ y ⊗ cond (eqb kind 2) w 𝟘 ≡ w ⊗ operate N kind x y
-  one-kind zero x y w = simp ring
-  one-kind (suc zero) x y w = simp ring
-  one-kind (suc (suc zero)) x y w = simp ring
-  one-kind (suc (suc (suc kind))) x y w =
-      let one : eqb (suc (suc (suc kind))) 1 ≡ false = ne-eqb (suc (suc (suc kind))) 1 (omega arith) in
-      let two : eqb (suc (suc (suc kind))) 2 ≡ false = ne-eqb (suc (suc (suc kind))) 2 (omega arith) in
-      rw (one, two) (simp ring)
+  -- THE SUMMAND, gate by gate: a gate has one kind, so of a sum over different kinds its own is what is left
+  one-kind : (f : ℕ → C) (kind : ℕ) (w : C) (a : ℕ) (ks : List ℕ) → Distinct ks
+      → sumFrom N (λ i κ. f κ ⊗ cond (eqb kind κ) w 𝟘) a ks ≡ w ⊗ cond (isOneOf ks kind) (f kind) 𝟘
+  unfolding sumFrom isOneOf
+  one-kind f kind w a [] d = sym (mul-zero R w)
+  one-kind f kind w a (κ ∷ ks) d = go (eqb kind κ) refl (one-kind f kind w (suc a) ks (d .1))
+    where
+      rest : C
+      rest = sumFrom N (λ i κ. f κ ⊗ cond (eqb kind κ) w 𝟘) (suc a) ks
+
+      own : (x w : C) → x ⊗ w ⊕ w ⊗ 𝟘 ≡ w ⊗ x
+      own x w = simp ring
+
+      other : (x r : C) → x ⊗ 𝟘 ⊕ r ≡ r
+      other x r = simp ring
+
+      go : (b : Bool) → eqb kind κ ≡ b → rest ≡ w ⊗ cond (isOneOf ks kind) (f kind) 𝟘
+          → f κ ⊗ cond b w 𝟘 ⊕ rest ≡ w ⊗ cond (b || isOneOf ks kind) (f kind) 𝟘
+      go true e ih =
+          let same : kind ≡ κ = eqb-true kind κ e in
+          ap₂ (λ (k : ℕ) (y : C). f k ⊗ w ⊕ y) (sym same) (ih ∙ ap (λ (b : Bool). w ⊗ cond b (f kind) 𝟘) (none-of ks kind (rw same (d .0))))
+          ∙ own (f kind) w
+      go false e ih = other (f κ) rest ∙ ih
 
   pub combined-gates : (gs : List Gate) (point u v : List C) (x y : C)
-      → combined N gs point u v x y
-      ≡ sumFrom N (λ a g. weight N a point ⊗ weight N (g .left) u ⊗ weight N (g .right) v ⊗ operate N (g .kind) x y) 0 gs
+      → combined N gs point u v x y ≡ sumFrom N (λ a g. gateWeight N point u v a (g .left) (g .right) ⊗ operate N (g .kind) x y) 0 gs
   unfolding combined wiring
   combined-gates gs point u v x y =
-      ap₂ _⊕_
-      (R .mul-comm (sumFrom N (term 1) 0 gs) (x ⊕ y) ∙ sym (sumFrom-scale R (x ⊕ y) (term 1) 0 gs))
-      (turn (sumFrom N (term 2) 0 gs) x y ∙ sym (sumFrom-scale R (x ⊗ y) (term 2) 0 gs))
-      ∙ sym (sumFrom-add R (λ a g. (x ⊕ y) ⊗ term 1 a g) (λ a g. x ⊗ y ⊗ term 2 a g) 0 gs)
-      ∙ sumFrom-same N (λ a g. (x ⊕ y) ⊗ term 1 a g ⊕ x ⊗ y ⊗ term 2 a g) (λ a g. three a g ⊗ operate N (g .kind) x y)
-      (λ a g. one-kind (g .kind) x y (three a g)) 0 gs
+      sumFrom-same N _ (λ i κ. sumFrom N (λ a g. operate N κ x y ⊗ part κ a g) 0 gs)
+      (λ i κ. R .mul-comm (sumFrom N (part κ) 0 gs) (operate N κ x y) ∙ sym (sumFrom-scale R (operate N κ x y) (part κ) 0 gs)) 0 kinds
+      ∙ sumFrom-swap R (λ a g i κ. operate N κ x y ⊗ part κ a g) 0 0 gs kinds
+      ∙ sumFrom-same N _ (λ a g. three a g ⊗ operate N (g .kind) x y)
+      (λ a g. one-kind (λ κ. operate N κ x y) (g .kind) (three a g) 0 kinds kinds-distinct
+      ∙ ap (λ (o : C). three a g ⊗ o) (operate-listed N (g .kind) x y)) 0 gs
     where
       three : ℕ → Gate → C
-      three a g = weight N a point ⊗ weight N (g .left) u ⊗ weight N (g .right) v
+      three a g = gateWeight N point u v a (g .left) (g .right)
 
-      term : ℕ → ℕ → Gate → C
-      term kind a g = cond (eqb (g .kind) kind) (three a g) 𝟘
+      part : ℕ → ℕ → Gate → C
+      part κ a g = cond (eqb (g .kind) κ) (three a g) 𝟘
 
-      turn : (m x y : C) → m ⊗ x ⊗ y ≡ x ⊗ y ⊗ m
-      turn m x y = simp ring
+  pub formula : Formula N
+  unfolding combined sumFrom
+  formula gs point u v x y = plain (wiring N 1 gs point u v) (wiring N 2 gs point u v) x y
+    where
+      plain : (A M x y : C) → A ⊗ (x ⊕ y) ⊕ (M ⊗ (x ⊗ y) ⊕ 𝟘) ≡ A ⊗ (x ⊕ y) ⊕ M ⊗ x ⊗ y
+      plain A M x y = simp ring
 
   -- the weights of a gate's wires, split where the fixed coordinates end instead of where u ends
   split-wires : (k : ℕ) (g : Gate) (xs bs : List C) (c o : C) → length xs + length bs ≡ 2 * k

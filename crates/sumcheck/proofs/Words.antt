@@ -11,19 +11,20 @@ use Rattle.lists.proofs.Map.{map-append}
 use Rattle.algebra.specs.Numbers.{Numbers, words}
 use Rattle.algebra.specs.Hom.{Hom}
 use Rattle.algebra.specs.Residue.{residue, residues}
-use Rattle.algebra.specs.Polynomial.{valueAt, times, constant, X, polynomials}
+use Rattle.algebra.specs.Polynomial.{valueAt, constant, X, polynomials}
+use Rattle.algebra.proofs.Hom.{hom-add, hom-mul}
 use Rattle.algebra.proofs.Polynomial.{hom-value, value-below}
 use Rattle.algebra.proofs.Residue.{residues-ring, residue-hom, residue-injective}
 use Rattle.multilinear.specs.Extension.{extension}
 use Rattle.multilinear.proofs.Hom.{hom-extension}
-use Rattle.multilinear.proofs.Words.{below, by-residues, plus-below, times-below, coefficients-below}
-use Rattle.circuit.specs.Gate.{Gate, gateValue}
+use Rattle.multilinear.proofs.Words.{below, by-residues, sumFrom-below, plus-below, times-below, sumFrom-coefficients, coefficients-below}
+use Rattle.circuit.specs.Gate.{Gate, kinds, gateValue}
 use Rattle.sumcheck.specs.Summand.{wiring, combined, summand, summandAt, cube, partialSum, linePoint}
 use Rattle.sumcheck.specs.Message.{fit, sumMessage, lineMessage}
-use Rattle.sumcheck.specs.Theorems.{LayerIdentity, SumOfTwo, SumMessageValue, LineMessageValue, LineEnds, SumMessageWords, LineMessageWords, PartialSumBelow, LinePointLength}
-use Rattle.sumcheck.proofs.Hom.{hom-layer, hom-partialSum, hom-linePoint, hom-sumMessage, hom-lineMessage}
+use Rattle.sumcheck.specs.Theorems.{FormulaOnWords, LayerIdentity, SumOfTwo, SumMessageValue, LineMessageValue, LineEnds, SumMessageWords, LineMessageWords, PartialSumBelow, LinePointLength}
+use Rattle.sumcheck.proofs.Hom.{hom-layer, hom-wiring, hom-combined, hom-partialSum, hom-linePoint, hom-sumMessage, hom-lineMessage}
 use Rattle.sumcheck.proofs.Cube.{cube-more, cube-same}
-use Rattle.sumcheck.proofs.Layer.{ring-identity}
+use Rattle.sumcheck.proofs.Layer.{formula, ring-identity}
 use Rattle.sumcheck.proofs.Degree.{length-fit}
 use Rattle.sumcheck.proofs.Message.{length-line, sum-value, line-value, line-zero, line-one}
 
@@ -36,7 +37,7 @@ module _ (p : ℕ) (pos : 0 < p) where
 
   pub combined-below : (gs : List Gate) (point u v : List ℕ) (x y : ℕ) → combined (words p) gs point u v x y < p
   unfolding combined
-  combined-below gs point u v x y = mod-lt _ pos
+  combined-below gs point u v x y = sumFrom-below p pos _ 0 kinds
 
 pub partial-sum-below : PartialSumBelow
 unfolding partialSum summand
@@ -60,7 +61,7 @@ module _ (p : ℕ) (pos : 0 < p) where
   combined-coefficients : (gs : List Gate) (point u v : List (List ℕ)) (x y : List ℕ) → All (λ c. c < p) (combined P gs point u v x y)
   unfolding combined
   combined-coefficients gs point u v x y =
-      plus-below p pos _ _ (times-below p pos (wiring P _ gs point u v) _) (times-below p pos (times (words p) (wiring P _ gs point u v) _) _)
+      sumFrom-coefficients p pos _ 0 kinds (λ i kind. times-below p pos (wiring P kind gs point u v) _)
 
   fit-coefficients : (n : ℕ) (f : List ℕ) → All (λ c. c < p) f → All (λ c. c < p) (fit (words p) n f)
   unfolding fit
@@ -121,6 +122,19 @@ pub line-point-length : LinePointLength
 line-point-length p u v t e = length-line (words p) (length u) u v t refl (sym e)
 
 -- WHAT HOLDS OF RESIDUES
+pub formula-on-words : FormulaOnWords
+formula-on-words p pos gs point u v x y =
+    residue-injective p pos _ _ (combined-below p pos gs point u v x y) (mod-lt _ pos)
+    (hom-combined H gs point u v refl refl
+    ∙ formula (residues-ring p pos) gs (map ι point) (map ι u) (map ι v) (ι x) (ι y)
+    ∙ sym (hom-add H (hom-mul H (hom-wiring H _ gs point u v) (hom-add H refl refl)) (hom-mul H (hom-mul H (hom-wiring H _ gs point u v) refl) refl)))
+  where
+    ι : ℕ → Fin p
+    ι = residue p pos
+
+    H : Hom (words p) (residues p pos) (residue p pos)
+    H = residue-hom p pos
+
 pub layer-identity : LayerIdentity
 layer-identity p pos k gs point vs e h =
     residue-injective p pos (partialSum (words p) k gs point vs []) (extension (words p) (map (gateValue (words p) vs) gs) point)

@@ -1,28 +1,37 @@
 -- The summand of a layer and its sums over {0, 1}, over any numbers.
 -- Assumes nothing.
 use Prim.Native.Nat.{ℕ, zero, suc, _-_, _*_}
+use mathlib.Core.Path.{_≡_}
 use mathlib.Core.Bool.{cond}
 use mathlib.Core.List.{List, [], _∷_, _++_}
 use lib.Dec.{eqb}
 use lib.ListN.{length, take, drop}
 use Rattle.algebra.specs.Numbers.{Numbers}
 use Rattle.multilinear.specs.Extension.{weight, sumFrom, extension}
-use Rattle.circuit.specs.Gate.{Gate}
+use Rattle.circuit.specs.Gate.{Gate, kinds, operate}
 
 module _ {C : Type 0} (N : Numbers C) where
   open Numbers N using (𝟘, 𝟙, add as _⊕_, sub as _⊖_, mul as _⊗_)
 
   infixl 60 _⊕_ _⊖_
   infixl 70 _⊗_
-  -- "A sums weight(a, point) × weight(b, u) × weight(c, v) over the add gates a of layer i-1 with wires b and c; M does so over the
-  -- multiply gates": the sum over the gates of a kind
-  unfoldable pub wiring : ℕ → List Gate → List C → List C → List C → C
-  wiring kind gs point u v =
-      sumFrom N (λ a g. cond (eqb (g .kind) kind) (weight N a point ⊗ weight N (g .left) u ⊗ weight N (g .right) v) 𝟘) 0 gs
+  -- "weight(a, point) × weight(b, u) × weight(c, v)" of gate a with wires b and c
+  abbrev pub gateWeight : List C → List C → List C → ℕ → ℕ → ℕ → C
+  gateWeight point u v a b c = weight N a point ⊗ weight N b u ⊗ weight N c v
 
-  -- "A × (V(u) + V(v)) + M × V(u) × V(v)", with x for V(u) and y for V(v)
+  -- "A sums .. over the add gates a of layer i-1 ..; M does so over the multiply gates": the sum over the gates of a kind
+  unfoldable pub wiring : ℕ → List Gate → List C → List C → List C → C
+  wiring kind gs point u v = sumFrom N (λ a g. cond (eqb (g .kind) kind) (gateWeight point u v a (g .left) (g .right)) 𝟘) 0 gs
+
+  -- the sum over the kinds of their sums, each times what the kind does with x for V(u) and y for V(v)
   unfoldable pub combined : List Gate → List C → List C → List C → C → C → C
-  combined gs point u v x y = wiring 1 gs point u v ⊗ (x ⊕ y) ⊕ wiring 2 gs point u v ⊗ x ⊗ y
+  combined gs point u v x y = sumFrom N (λ i kind. wiring kind gs point u v ⊗ operate N kind x y) 0 kinds
+
+  -- "A × (V(u) + V(v)) + M × V(u) × V(v)": so it is over a ring, and on words
+  abbrev pub Formula : Type 0
+  Formula =
+      (gs : List Gate) (point u v : List C) (x y : C)
+      → combined gs point u v x y ≡ wiring 1 gs point u v ⊗ (x ⊕ y) ⊕ wiring 2 gs point u v ⊗ x ⊗ y
 
   -- "The summand at (u, v)": V extends the layer's values vs
   unfoldable pub summand : List Gate → List C → List C → List C → List C → C

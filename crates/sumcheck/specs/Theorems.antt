@@ -10,9 +10,13 @@ use Rattle.algebra.specs.Numbers.{words}
 use Rattle.algebra.specs.Polynomial.{valueAt}
 use Rattle.multilinear.specs.Extension.{extension}
 use Rattle.circuit.specs.Gate.{Gate, gateValue}
-use Rattle.sumcheck.specs.Summand.{partialSum, linePoint}
+use Rattle.sumcheck.specs.Summand.{Formula, partialSum, linePoint}
 use Rattle.sumcheck.specs.Message.{sumMessage, lineMessage}
 use Rattle.sumcheck.specs.Line.{lineHalving}
+
+-- the paper's formula for the summand
+abbrev pub FormulaOnWords : Type 0
+FormulaOnWords = (p : ℕ) → 0 < p → Formula (words p)
 
 -- the extension of the values above is the sum of the summand over {0, 1}, at any point
 abbrev pub LayerIdentity : Type 0

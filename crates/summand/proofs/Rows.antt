@@ -1,5 +1,5 @@
 -- The rows of an array of arrays have the length that its type says, since a function's parameter is a value of its type; so
--- the first k words of a row of eight are all of it where k is larger.
+-- the first k words of a row are all of it where k is larger.
 -- Assumes nothing.
 use mathlib.Core.Path.{_≡_, sym, ap, _∙_}
 use mathlib.Core.List.{List, [], _∷_}
@@ -14,7 +14,7 @@ use denote.Shadow.{shadow}
 use denote.Array.{Array, each}
 use denote.Plain.{UInt}
 use Rattle.lists.proofs.Parts.{take-most}
-use Rattle.circuit.specs.Limits.{maxExponent}
+use Rattle.extension.specs.Limits.{rowLength}
 use borrow.Kind.Array.{eInt, eArr, good-length}
 
 in-rows : (n : ℕ) (rows : List (List ℕ)) (us : List Val) (i : ℕ) → i < length rows
@@ -31,11 +31,11 @@ length-row m n rows vs i p h =
     in-rows n rows (p .0) i (omega arith) (p .1 .1)
 
 -- a row of the two, and n coordinates of it
-module _ (rows : List (List ℕ)) (vs : List Val) (i k n : ℕ) (p : Is (Array (Array (UInt w32) maxExponent) 2) rows vs) (h : i < 2)
-    (e : n ≡ min k maxExponent) where
+module _ (rows : List (List ℕ)) (vs : List Val) (i k n : ℕ) (p : Is (Array (Array (UInt w32) rowLength) 2) rows vs) (h : i < 2)
+    (e : n ≡ min k rowLength) where
   pub row-holds : n ≤ length (getD rows i [])
   row-holds =
-      let size = length-row 2 maxExponent rows vs i p h in
+      let size = length-row 2 rowLength rows vs i p h in
       omega arith
 
   pub length-part : n ≡ length (take n (getD rows i []))
@@ -43,5 +43,5 @@ module _ (rows : List (List ℕ)) (vs : List Val) (i k n : ℕ) (p : Is (Array (
 
   pub part-of-row : take n (getD rows i []) ≡ take k (getD rows i [])
   part-of-row =
-      let size = length-row 2 maxExponent rows vs i p h in
+      let size = length-row 2 rowLength rows vs i p h in
       ap (λ (m : ℕ). take m (getD rows i [])) (e ∙ ap (min k) (sym size)) ∙ take-most k (getD rows i [])

@@ -1,21 +1,28 @@
--- The gates of a list of words, and the weight of one.
+-- The gates of a list of words, and the summand from the sums over the gates of each kind.
 -- Assumes nothing.
-use Prim.Native.Nat.{ℕ, _/_}
-use mathlib.Core.Bool.{cond}
-use mathlib.Core.List.{List}
-use lib.Dec.{eqb}
+use Prim.Native.Nat.{ℕ, zero, suc, _/_, min}
+use mathlib.Core.List.{List, map}
 use lib.ListN.{length}
 use Rattle.algebra.specs.Numbers.{Numbers}
-use Rattle.multilinear.specs.Extension.{weight}
-use Rattle.circuit.specs.Gate.{Gate}
+use Rattle.multilinear.specs.Extension.{sumFrom}
+use Rattle.circuit.specs.Gate.{Gate, kinds, maxKind, operate}
 use Rattle.circuit.specs.Circuit.{gatesOf}
+use Rattle.sumcheck.specs.Summand.{wiring}
 
 -- the gates of a list of words, three words each
 abbrev pub gatesIn : List ℕ → List Gate
 gatesIn ws = gatesOf (length ws / 3) ws
 
+-- where the sum over the gates of a kind stands in a list of them, kind 1 first; one past the last for a kind that has none
+abbrev pub placeOf : ℕ → ℕ
+placeOf zero = maxKind
+placeOf (suc i) = min i maxKind
+
 module _ {C : Type 0} (N : Numbers C) where
-  -- weight(a, point) × weight(b, u) × weight(c, v) of gate a with wires b and c; 0 of an empty gate
-  abbrev pub gateWeight : ℕ → Gate → List C → List C → List C → C
-  gateWeight a g point u v =
-      cond (eqb (g .kind) 0) (N .𝟘) (N .mul (N .mul (weight N a point) (weight N (g .left) u)) (weight N (g .right) v))
+  -- all of them
+  abbrev pub wirings : List Gate → List C → List C → List C → List C
+  wirings gs point u v = map (λ kind. wiring N kind gs point u v) kinds
+
+  -- each times what its kind does with x and y
+  abbrev pub byKinds : List C → C → C → C
+  byKinds sums x y = sumFrom N (λ i sum. N .mul sum (operate N (suc i) x y)) 0 sums

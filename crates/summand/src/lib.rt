@@ -2,14 +2,14 @@
 use extension::MAX_COORDINATES;
 use field::Field;
 ghost use mathlib.Core.Path.{_≡_};
-ghost use mathlib.Core.Bool.{cond};
 ghost use mathlib.Core.List.{[]};
-ghost use lib.Dec.{eqb};
 ghost use lib.ListN.{take, getD};
 ghost use Rattle.field.specs.Modulus.{numbers};
-ghost use Rattle.circuit.specs.Gate.{gate};
-ghost use Rattle.sumcheck.specs.Summand.{wiring, combined, linePoint};
-ghost use Rattle.summand.specs.Gates.{gatesIn, gateWeight};
+ghost use Rattle.sumcheck.specs.Summand.{gateWeight, combined, linePoint};
+ghost use Rattle.summand.specs.Gates.{gatesIn, placeOf, wirings, byKinds};
+
+// How many kinds of gates do something with two values: kind 1 and those that follow it.
+const KINDS: usize = 2;
 
 // t times a difference, without a product where there is none: rows end in words that stand for no coordinate, and those are alike.
 fn scaled(f: Field, t: u32, difference: u32) -> u32
@@ -35,64 +35,72 @@ pub fn line_point(f: Field, points: [[u32; MAX_COORDINATES]; 2], t: u32) -> [u32
     line
 }
 
-// The weight of gate a with its two wires. An empty gate counts nothing, so its weights are not computed.
+// The weight of gate a with its two wires.
 fn gate_weight(
     f: Field,
     a: usize,
-    kind: u32,
     left: u32,
     right: u32,
     point: &[u32],
     u: &[u32],
     v: &[u32],
 ) -> u32
-    ensures { λ r. ⌜ r ≡ gateWeight (numbers f) a (gate kind left right) (now (point .entry)) (now (u .entry)) (now (v .entry)) ⌝ }
+    ensures { λ r. ⌜ r ≡ gateWeight (numbers f) (now (point .entry)) (now (u .entry)) (now (v .entry)) a left right ⌝ }
 {
-    if kind == 0 {
-        return Field::ZERO;
-    }
     let output = extension::weight_of(f, a, point);
     let first = extension::weight_of(f, left as usize, u);
     let second = extension::weight_of(f, right as usize, v);
     f.mul(f.mul(output, first), second)
 }
 
-// What a gate adds to the sum over the gates of a kind.
-fn part(kind: u32, wanted: u32, weight: u32) -> u32
-    ensures { λ r. ⌜ r ≡ cond (eqb kind wanted) weight 0 ⌝ }
+// Where the sum over the gates of a kind stands, kind 1 first; KINDS for a kind that has none.
+fn place(kind: u32) -> usize
+    ensures { λ r. ⌜ r ≡ placeOf kind ⌝ }
 {
-    if kind == wanted {
-        return weight;
+    if kind == 0 {
+        return KINDS;
     }
-    0
+    lists::least(kind as usize - 1, KINDS)
 }
 
-// The sums over the add gates and over the multiply gates.
-struct Sums {
-    adds: u32,
-    products: u32,
-}
-
-// Both sums in one pass, from the last gate to the first.
-fn wiring(f: Field, gates: &[u32], point: &[u32], u: &[u32], v: &[u32]) -> Sums
-    ensures { λ r. ⌜ (r .adds ≡ wiring (numbers f) 1 (gatesIn (now (gates .entry))) (now (point .entry)) (now (u .entry)) (now (v .entry))) × (r .products ≡ wiring (numbers f) 2 (gatesIn (now (gates .entry))) (now (point .entry)) (now (u .entry)) (now (v .entry))) ⌝ }
+// The sums over the gates of each kind, in one pass from the last gate to the first. The weight of a gate that counts in none
+// is not computed.
+fn wirings(f: Field, gates: &[u32], point: &[u32], u: &[u32], v: &[u32]) -> [u32; KINDS]
+    ensures { λ r. ⌜ r ≡ wirings (numbers f) (gatesIn (now (gates .entry))) (now (point .entry)) (now (u .entry)) (now (v .entry)) ⌝ }
 {
-    let mut adds = Field::ZERO;
-    let mut products = Field::ZERO;
+    let mut sums = [Field::ZERO; KINDS];
     let mut a = gates.len() / 3;
     while 0 < a {
         a -= 1;
         let g = 3 * a;
-        let kind = gates[g];
-        let weight = gate_weight(f, a, kind, gates[g + 1], gates[g + 2], point, u, v);
-        adds = f.add(part(kind, 1, weight), adds);
-        products = f.add(part(kind, 2, weight), products);
+        let i = place(gates[g]);
+        if i < KINDS {
+            let weight = gate_weight(f, a, gates[g + 1], gates[g + 2], point, u, v);
+            sums[i] = f.add(weight, sums[i]);
+        }
     }
-    Sums { adds, products }
+    sums
 }
 
-// The summand at the two points, the first k coordinates of each row, where the next layer's extension is x at the first and y at the second:
-// A × (x + y) + M × x × y. A k above the length of a row stands for all of it.
+// The sums, each times what its kind does with x and y, from the last kind to the first. A kind whose sum is 0 costs no product.
+fn by_kinds(f: Field, sums: [u32; KINDS], x: u32, y: u32) -> u32
+    ensures { λ r. ⌜ r ≡ byKinds (numbers f) sums x y ⌝ }
+{
+    let mut total = Field::ZERO;
+    let mut i = KINDS;
+    while 0 < i {
+        i -= 1;
+        let sum = sums[i];
+        if sum != 0 {
+            let value = evaluation::gate_value(f, i as u32 + 1, x, y);
+            total = f.add(f.mul(sum, value), total);
+        }
+    }
+    total
+}
+
+// The summand at the two points, the first k coordinates of each row, where the next layer's extension is x at the first and y at the second.
+// A k above the length of a row stands for all of it.
 pub fn combined(
     f: Field,
     gates: &[u32],
@@ -107,7 +115,5 @@ pub fn combined(
     let n = lists::least(k, MAX_COORDINATES);
     let u = points[0];
     let v = points[1];
-    let sums = wiring(f, gates, point, &u[..n], &v[..n]);
-    let added = f.mul(sums.adds, f.add(x, y));
-    f.add(added, f.mul(f.mul(sums.products, x), y))
+    by_kinds(f, wirings(f, gates, point, &u[..n], &v[..n]), x, y)
 }

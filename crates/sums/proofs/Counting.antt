@@ -46,8 +46,8 @@ module _ (p : ℕ) where
   picked true w x y = refl
   picked false w x y = refl
 
-  -- its parts in the three sums, from the tables
-  module _ (ps : List ℕ) (l r : Side ℕ) where
+  module _ (ws ps : List ℕ) (l r : Side ℕ) where
+    -- its parts in the three sums, from the tables
     abbrev zeroPart : ℕ → Gate → ℕ
     zeroPart a g = cond (gateIsOne N l r g) 0 (N .mul (gateShare N ps l r a g) (gateOwn N l r g))
 
@@ -57,23 +57,22 @@ module _ (p : ℕ) where
     abbrev squarePart : ℕ → Gate → ℕ
     squarePart a g = N .mul (gateShare N ps l r a g) (N .sub (gateOwn N l r g) (gateOther N l r g))
 
-    tabled : (a : ℕ) (g : Gate) (weight : ℕ) (left right : Wire) (c : Counts) → weight ≡ getD ps a 0
-        → Reads l (g .left) left → Reads r (g .right) right → Counted N (g .kind) weight left right c
-        → (N .mul (c .share) (c .zeros) ≡ zeroPart a g) × (N .mul (c .share) (c .ones) ≡ onePart a g)
-        × (N .mul (c .share) (c .squares) ≡ squarePart a g)
-    tabled a g weight left right c w hl hr h =
-        let e = h .share in
-        let z = h .zeros in
-        let o = h .ones in
-        let s = h .squares in
-        let a₁ = hl .share in
-        let a₂ = hl .own in
-        let a₃ = hl .other in
-        let a₄ = hl .one in
-        let b₁ = hr .share in
-        let b₂ = hr .own in
-        let b₃ = hr .other in
-        let b₄ = hr .one in
+    -- what is read of gate a: its weight, its wires, and its counts from these
+    pub record Known (a weight : ℕ) (left right : Wire) (c : Counts) : Type 0 where
+      pub weighed : weight ≡ getD ps a 0
+      pub on-left : Reads l (gateAt ws a .left) left
+      pub on-right : Reads r (gateAt ws a .right) right
+      pub counts : Counted N (gateAt ws a .kind) weight left right c
+
+    tabled : {a weight : ℕ} {left right : Wire} {c : Counts} → Known a weight left right c
+        → (N .mul (c .share) (c .zeros) ≡ zeroPart a (gateAt ws a)) × (N .mul (c .share) (c .ones) ≡ onePart a (gateAt ws a))
+        × (N .mul (c .share) (c .squares) ≡ squarePart a (gateAt ws a))
+    tabled {a} h =
+        let g = gateAt ws a in
+        let w = h .weighed in
+        let hl = h .on-left in
+        let hr = h .on-right in
+        let hc = h .counts in
         let share = gateShare N ps l r a g in
         let value = gateOwn N l r g in
         let bit = gateIsOne N l r g in
@@ -84,50 +83,49 @@ module _ (p : ℕ) where
         picked bit share value 0 ∙ ap (cond bit (N .mul share value)) none in
         (cc, cc, cc)
 
-  -- THE SUMS OVER THE GATES PASSED
-  pub record Passed (ws ps : List ℕ) (l r : Side ℕ) (zeros ones squares a : ℕ) : Type 0 where
-    pub within : a ≤ length ws / 3
-    pub zeros-are : zeros ≡ sumOn N (zeroPart ps l r) (length ws / 3) ws a
-    pub ones-are : ones ≡ sumOn N (onePart ps l r) (length ws / 3) ws a
-    pub squares-are : squares ≡ sumOn N (squarePart ps l r) (length ws / 3) ws a
+    -- THE SUMS OVER THE GATES PASSED
+    abbrev sumAt : (ℕ → Gate → ℕ) → ℕ → ℕ
+    sumAt part a = sumOn N part (length ws / 3) ws a
 
-  pub start : (ws ps : List ℕ) (l r : Side ℕ) (zeros ones squares : ℕ) → zeros ≡ 0 → ones ≡ 0 → squares ≡ 0
-      → Passed ws ps l r zeros ones squares (length ws / 3)
-  start ws ps l r zeros ones squares ez eo es = record {
-    within = omega arith;
-    zeros-are = ez ∙ sum-none N (zeroPart ps l r) (length ws / 3) ws;
-    ones-are = eo ∙ sum-none N (onePart ps l r) (length ws / 3) ws;
-    squares-are = es ∙ sum-none N (squarePart ps l r) (length ws / 3) ws;
-  }
+    pub record Passed (zeros ones squares a : ℕ) : Type 0 where
+      pub within : a ≤ length ws / 3
+      pub zeros-are : zeros ≡ sumAt zeroPart a
+      pub ones-are : ones ≡ sumAt onePart a
+      pub squares-are : squares ≡ sumAt squarePart a
 
-  pub step : (ws ps : List ℕ) (l r : Side ℕ) (zeros ones squares a weight : ℕ) (left right : Wire) (c : Counts) (zeros′ ones′ squares′ : ℕ)
-      → Passed ws ps l r zeros ones squares a → 0 < a → weight ≡ getD ps (a - 1) 0
-      → Reads l (getD ws (3 * (a - 1) + 1) 0) left → Reads r (getD ws (3 * (a - 1) + 2) 0) right
-      → Counted N (getD ws (3 * (a - 1)) 0) weight left right c
-      → zeros′ ≡ N .add (N .mul (c .share) (c .zeros)) zeros → ones′ ≡ N .add (N .mul (c .share) (c .ones)) ones
-      → squares′ ≡ N .add (N .mul (c .share) (c .squares)) squares
-      → Passed ws ps l r zeros′ ones′ squares′ (a - 1)
-  step ws ps l r zeros ones squares a weight left right c zeros′ ones′ squares′ h more w hl hr hc ez eo es =
-      let n = length ws / 3 in
-      let within = h .within in
-      let parts = tabled ps l r (a - 1) (gateAt ws (a - 1)) weight left right c w hl hr hc in
-      record {
-        within = omega arith;
-        zeros-are = ez ∙ sum-step N (zeroPart ps l r) n ws a _ zeros more within (parts .0) (h .zeros-are);
-        ones-are = eo ∙ sum-step N (onePart ps l r) n ws a _ ones more within (parts .1) (h .ones-are);
-        squares-are = es ∙ sum-step N (squarePart ps l r) n ws a _ squares more within (parts .2) (h .squares-are);
-      }
+    pub start : {zeros ones squares : ℕ} → zeros ≡ 0 → ones ≡ 0 → squares ≡ 0 → Passed zeros ones squares (length ws / 3)
+    start ez eo es = record {
+      within = omega arith;
+      zeros-are = ez ∙ sum-none N zeroPart (length ws / 3) ws;
+      ones-are = eo ∙ sum-none N onePart (length ws / 3) ws;
+      squares-are = es ∙ sum-none N squarePart (length ws / 3) ws;
+    }
 
-  pub end : (ws ps : List ℕ) (l r : Side ℕ) (zeros ones squares a zeros′ ones′ squares′ less middle : ℕ)
-      → Passed ws ps l r zeros ones squares a → a ≡ 0 → zeros′ ≡ zeros → ones′ ≡ ones → squares′ ≡ squares
-      → less ≡ N .sub ones′ zeros′ → middle ≡ N .sub less squares′
-      → zeros′ ∷ middle ∷ squares′ ∷ [] ≡ sumsOf N ps l r (gatesIn ws)
-  unfolding threeSums
-  end ws ps l r zeros ones squares a zeros′ ones′ squares′ less middle h e ez eo es el em =
-      let n = length ws / 3 in
-      let all : (x : ℕ → Gate → ℕ) (s : ℕ) → s ≡ sumOn N x n ws a → s ≡ sumFrom N x 0 (gatesIn ws) =
-      λ x s q. q ∙ ap (sumOn N x n ws) e ∙ sum-all N x n ws in
-      let z = all (zeroPart ps l r) zeros (h .zeros-are) in
-      let o = all (onePart ps l r) ones (h .ones-are) in
-      let s = all (squarePart ps l r) squares (h .squares-are) in
-      cc
+    pub step : {zeros ones squares a weight : ℕ} {left right : Wire} {c : Counts} {zeros′ ones′ squares′ : ℕ}
+        → Passed zeros ones squares a → 0 < a → Known (a - 1) weight left right c
+        → zeros′ ≡ N .add (N .mul (c .share) (c .zeros)) zeros → ones′ ≡ N .add (N .mul (c .share) (c .ones)) ones
+        → squares′ ≡ N .add (N .mul (c .share) (c .squares)) squares
+        → Passed zeros′ ones′ squares′ (a - 1)
+    step {zeros} {ones} {squares} {a} h more known ez eo es =
+        let n = length ws / 3 in
+        let within = h .within in
+        let parts = tabled known in
+        record {
+          within = omega arith;
+          zeros-are = ez ∙ sum-step N zeroPart n ws a _ zeros more within (parts .0) (h .zeros-are);
+          ones-are = eo ∙ sum-step N onePart n ws a _ ones more within (parts .1) (h .ones-are);
+          squares-are = es ∙ sum-step N squarePart n ws a _ squares more within (parts .2) (h .squares-are);
+        }
+
+    pub end : {zeros ones squares a zeros′ ones′ squares′ less middle : ℕ} → Passed zeros ones squares a → a ≡ 0
+        → zeros′ ≡ zeros → ones′ ≡ ones → squares′ ≡ squares → less ≡ N .sub ones′ zeros′ → middle ≡ N .sub less squares′
+        → zeros′ ∷ middle ∷ squares′ ∷ [] ≡ sumsOf N ps l r (gatesIn ws)
+    unfolding threeSums
+    end {zeros} {ones} {squares} {a} h e ez eo es el em =
+        let n = length ws / 3 in
+        let all : (x : ℕ → Gate → ℕ) (s : ℕ) → s ≡ sumOn N x n ws a → s ≡ sumFrom N x 0 (gatesIn ws) =
+        λ x s q. q ∙ ap (sumOn N x n ws) e ∙ sum-all N x n ws in
+        let z = all zeroPart zeros (h .zeros-are) in
+        let o = all onePart ones (h .ones-are) in
+        let s = all squarePart squares (h .squares-are) in
+        cc

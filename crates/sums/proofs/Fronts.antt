@@ -1,7 +1,7 @@
 -- The tables stand at the front of arrays of the widest layer's length, so the parts that are lent are the tables; and the numbers of
 -- coordinates, clipped, take the coordinates that are fixed.
 -- Assumes nothing.
-use mathlib.Core.Path.{_≡_, sym, ap, ap₂, _∙_}
+use mathlib.Core.Path.{_≡_, refl, sym, ap, ap₂, _∙_}
 use mathlib.Core.Bool.{Bool, true, false, cond, not}
 use mathlib.Core.List.{List, [], _∷_}
 use Prim.Native.Nat.{ℕ, _-_, _/_, _^_, _≤_, min, zero-le}
@@ -19,7 +19,9 @@ use Rattle.algebra.specs.Numbers.{Numbers, words}
 use Rattle.multilinear.specs.Extension.{fold}
 use Rattle.multilinear.specs.Tables.{weights, folded}
 use Rattle.multilinear.proofs.Tables.{length-weights, length-fold}
-use Rattle.tables.specs.Table.{maxWidth, Table}
+use Rattle.extension.specs.Limits.{rowLength}
+use Rattle.tables.specs.Limits.{tableWidth}
+use Rattle.tables.specs.Table.{Table}
 use Rattle.circuit.specs.Limits.{maxExponent}
 use Rattle.circuit.specs.Gate.{Gate}
 use Rattle.circuit.specs.Circuit.{widthOf}
@@ -28,6 +30,13 @@ use Rattle.sumcheck.specs.Gatewise.{Side, sideOf, sumsOf, sumByGates}
 use Rattle.sums.specs.declared.Cut.{Cut}
 use Rattle.sums.specs.Wire.{CutAt, Fits, side}
 use Rattle.sums.specs.Round.{fixedFirst, fixedSecond}
+
+-- THE LIMITS: a point of the largest exponent fills its row, and the values of such a layer fill a table
+pub row-is : rowLength ≡ maxExponent
+row-is = refl
+
+pub table-is : tableWidth ≡ 2 ^ maxExponent
+table-is = refl
 
 -- A CUT
 pub cut-fits : (k n : ℕ) (next : Bool) (c : Cut) → CutAt k n next c → k ≤ maxExponent → Fits c
@@ -45,12 +54,12 @@ cut-fits k n next c h small =
 
 -- THE PARTS THAT ARE LENT
 pub width-within : (k n : ℕ) (entries table : List ℕ) → Table entries table → n ≡ widthOf k → n ≤ length table
-width-within k n entries table t e = let size = t .size in omega (arith, width-small k)
+width-within k n entries table t e = let size = t .size in omega (arith, table-is, width-small k)
 
-pub values-within : (m k n : ℕ) (entries table : List ℕ) → Table entries table → n ≡ min maxWidth m → n / 2 ^ k ≤ length table
+pub values-within : (m k n : ℕ) (entries table : List ℕ) → Table entries table → n ≡ min tableWidth m → n / 2 ^ k ≤ length table
 values-within m k n entries table t e =
     let size = t .size in
-    omega (arith, shr-le n k, min-le-left maxWidth m)
+    omega (arith, shr-le n k, min-le-left tableWidth m)
 
 pub lent : (n : ℕ) (table : List ℕ) → n ≤ length table → n ≡ length (take n table)
 lent n table h = sym (length-take-le n table h)
@@ -74,11 +83,11 @@ module _ (p : ℕ) where
       length-of-folded xs (fold N x vs) ∙ ap (λ (m : ℕ). m / 2 ^ length xs) (length-fold N x vs) ∙ shr-shr (length vs) 1 (length xs)
       ∙ ap (λ (m : ℕ). length vs / 2 ^ m) (one-add (length xs))
 
-  pub folded-lent : (k n : ℕ) (values xs table : List ℕ) → length xs ≡ k → n ≡ min maxWidth (length values)
-      → Table (folded N xs (take maxWidth values)) table → take (n / 2 ^ k) table ≡ folded N xs (take maxWidth values)
+  pub folded-lent : (k n : ℕ) (values xs table : List ℕ) → length xs ≡ k → n ≡ min tableWidth (length values)
+      → Table (folded N xs (take tableWidth values)) table → take (n / 2 ^ k) table ≡ folded N xs (take tableWidth values)
   folded-lent k n values xs table size e t =
       ap (λ (m : ℕ). take m table)
-      (ap₂ (λ (m j : ℕ). m / 2 ^ j) (e ∙ sym (length-take maxWidth values)) (sym size) ∙ sym (length-of-folded xs (take maxWidth values)))
+      (ap₂ (λ (m j : ℕ). m / 2 ^ j) (e ∙ sym (length-take tableWidth values)) (sym size) ∙ sym (length-of-folded xs (take tableWidth values)))
       ∙ t .holds
 
   pub side-is : (k n : ℕ) (next : Bool) (vs xs shares table : List ℕ) (c : Cut) → length xs ≡ n → CutAt k n next c
@@ -93,23 +102,23 @@ module _ (p : ℕ) where
 
   -- the side of a point with n coordinates fixed, from its tables
   pub fixed-side : (k n m w : ℕ) (next : Bool) (values xs shares table : List ℕ) (c : Cut) → n ≤ length xs → n ≤ maxExponent
-      → CutAt k n next c → m ≡ min maxWidth (length values) → w ≡ widthOf n
-      → Table (weights N (take n xs)) shares → Table (folded N (take n xs) (take maxWidth values)) table
-      → side (take w shares) (take (m / 2 ^ n) table) c ≡ sideOf N k (take maxWidth values) (take n xs) next
+      → CutAt k n next c → m ≡ min tableWidth (length values) → w ≡ widthOf n
+      → Table (weights N (take n xs)) shares → Table (folded N (take n xs) (take tableWidth values)) table
+      → side (take w shares) (take (m / 2 ^ n) table) c ≡ sideOf N k (take tableWidth values) (take n xs) next
   fixed-side k n m w next values xs shares table c enough small h em ew ts tt′ =
       let size : length (take n xs) ≡ n = length-take-le n xs enough in
-      side-is k n next (take maxWidth values) (take n xs) _ _ c size h
+      side-is k n next (take tableWidth values) (take n xs) _ _ c size h
       (weights-lent n w (take n xs) shares size small ew ts) (folded-lent n m values (take n xs) table size em tt′)
 
   -- with none fixed: one share, and the values
-  pub open-side : (k n m : ℕ) (next : Bool) (values xs : List ℕ) (c : Cut) → n ≡ 0 → CutAt k n next c → m ≡ min maxWidth (length values)
-      → side (1 ∷ []) (take m values) c ≡ sideOf N k (take maxWidth values) (take n xs) next
+  pub open-side : (k n m : ℕ) (next : Bool) (values xs : List ℕ) (c : Cut) → n ≡ 0 → CutAt k n next c → m ≡ min tableWidth (length values)
+      → side (1 ∷ []) (take m values) c ≡ sideOf N k (take tableWidth values) (take n xs) next
   unfolding weights folded
   open-side k n m next values xs c none h em =
-      side-is k n next (take maxWidth values) (take n xs) _ _ c (ap (λ (j : ℕ). length (take j xs)) none ∙ sym none) h
+      side-is k n next (take tableWidth values) (take n xs) _ _ c (ap (λ (j : ℕ). length (take j xs)) none ∙ sym none) h
       (sym (ap (λ (j : ℕ). weights N (take j xs)) none))
-      (ap (λ (j : ℕ). take j values) em ∙ take-most maxWidth values
-      ∙ sym (ap (λ (j : ℕ). folded N (take j xs) (take maxWidth values)) none))
+      (ap (λ (j : ℕ). take j values) em ∙ take-most tableWidth values
+      ∙ sym (ap (λ (j : ℕ). folded N (take j xs) (take tableWidth values)) none))
 
 -- THE COORDINATES THAT ARE FIXED
 leb-not : (a b : ℕ) → leb a b ≡ not (ltb b a)
@@ -121,8 +130,8 @@ leb-not a b = go (decLe a b)
 
 module _ (p : ℕ) (gs : List Gate) (point : List ℕ) (above : ℕ) (vs : List ℕ) (rows : List (List ℕ)) (k fixed first second width : ℕ)
     (table message : List ℕ) where
-  pub round-is : length point ≡ maxExponent → length (getD rows 0 []) ≡ maxExponent → k ≤ maxExponent → first ≡ min fixed k
-      → second ≡ min (fixed - first) k → width ≡ widthOf (min above maxExponent) → Table (weights (words p) (take above point)) table
+  pub round-is : length point ≡ rowLength → length (getD rows 0 []) ≡ rowLength → k ≤ maxExponent → first ≡ min fixed k
+      → second ≡ min (fixed - first) k → width ≡ widthOf (min above rowLength) → Table (weights (words p) (take above point)) table
       → message ≡ sumsOf (words p) (take width table) (sideOf (words p) k vs (take first (getD rows 0 [])) (ltb first k))
       (sideOf (words p) k vs (take second (getD rows 1 [])) (leb k first)) gs
       → message ≡ sumByGates (words p) k gs (take above point) vs (fixedFirst k fixed rows) (fixedSecond k fixed rows)
@@ -137,8 +146,8 @@ module _ (p : ℕ) (gs : List Gate) (point : List ℕ) (above : ℕ) (vs : List 
       ap (λ (n : ℕ). take n (getD rows 1 [])) (es ∙ ap (λ (n : ℕ). min n k) rest) ∙ take-least (fixed - k) k (getD rows 1 []) in
       let count : first ≡ length (fixedFirst k fixed rows) = sym (length-take-le first (getD rows 0 []) (omega arith)) ∙ ap length left in
       let weigh : take width table ≡ weights (words p) (take above point) =
-      weights-lent p (min above maxExponent) width (take above point) table
-      (length-take above point ∙ ap (min above) ep) (min-le-right above maxExponent) ew t in
+      weights-lent p (min above rowLength) width (take above point) table
+      (length-take above point ∙ ap (min above) ep) (omega (arith, row-is, min-le-right above rowLength)) ew t in
       e
       ∙ ap₂ (λ (ps xs : List ℕ). sumsOf (words p) ps (sideOf (words p) k vs xs (ltb first k))
       (sideOf (words p) k vs (take second (getD rows 1 [])) (leb k first)) gs) weigh left

@@ -10,12 +10,13 @@ use native.Mathlib.Omega.{arith}
 use lib.ListN.{length, take, getD}
 use lib.Seq.{length-take-le, take-all, take-append-le, take-append-add}
 use Rattle.algebra.specs.Numbers.{words}
-use Rattle.tables.specs.Table.{maxWidth}
+use Rattle.tables.specs.Limits.{tableWidth}
 use Rattle.circuit.proofs.Sized.{width-le}
 use Rattle.sumcheck.specs.Message.{sumMessage}
 use Rattle.sumcheck.specs.Gatewise.{sumByGates, InOrder}
 use Rattle.sumcheck.proofs.Gatewise.{sum-by-gates}
 use Rattle.sums.specs.Round.{fixedFirst, fixedSecond, HonestRound}
+use Rattle.sums.proofs.Fronts.{row-is, table-is}
 
 module _ (k n : ℕ) (us vs : List ℕ) (eu : length us ≡ k) (ev : length vs ≡ k) where
   in-order : n < 2 * k → InOrder k (take n us) (take (n - k) vs)
@@ -44,6 +45,6 @@ honest-round p prime three k n gs point values rows small less eu ev e below few
     let size : length us ≡ k = length-take-le k (getD rows 0 []) (omega arith) in
     let size′ : length vs ≡ k = length-take-le k (getD rows 1 []) (omega arith) in
     ap₂ (λ (m : ℕ) (l : List ℕ). sumByGates (words p) m gs point l (fixedFirst m n rows) (fixedSecond m n rows))
-    (min-eq-left small) (take-all maxWidth values (omega (arith, width-le k small)))
+    (min-eq-left (omega (arith, row-is, small))) (take-all tableWidth values (omega (arith, table-is, width-le k small)))
     ∙ sum-by-gates p prime three k gs point values (take n us) (take (n - k) vs) e below few (in-order k n us vs size size′ less)
     ∙ ap (sumMessage (words p) k gs point values) (together k n us vs size size′)

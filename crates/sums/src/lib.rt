@@ -4,17 +4,16 @@ use field::Field;
 use tables::MAX_WIDTH;
 use tally::Tally;
 ghost use mathlib.Core.Path.{_≡_};
-ghost use mathlib.Core.List.{[]};
 ghost use Prim.Native.Nat.{_%_, _≤_, min};
 ghost use lib.Dec.{ltb, leb};
 ghost use lib.ListN.{take};
 ghost use Rattle.field.specs.Modulus.{modulus, numbers};
-ghost use Rattle.tables.specs.Table.{maxWidth};
+ghost use Rattle.extension.specs.Limits.{rowLength};
 ghost use Rattle.circuit.specs.Limits.{maxExponent};
-ghost use Rattle.sumcheck.specs.Gatewise.{sideOf, sumsOf, sumByGates};
+ghost use Rattle.sumcheck.specs.Gatewise.{sumsOf};
 ghost use Rattle.summand.specs.Gates.{gatesIn};
 ghost use Rattle.sums.specs.Wire.{CutAt, Fits, side, Reads, Counted};
-ghost use Rattle.sums.specs.Round.{fixedFirst, fixedSecond};
+ghost use Rattle.sums.specs.Round.{sideAt, roundMessage};
 
 // How a wire's number is cut: its `free` last bits are for the coordinates not fixed, `size` is 2^free, and `half` half of it, or 0 where
 // the next coordinate is the other point's.
@@ -170,7 +169,7 @@ fn by_side(
     next: bool,
 ) -> [u32; 3]
     requires { ⌜ Fits cut × (second ≤ k) × (k ≤ maxExponent) ⌝ }
-    ensures { λ m. ⌜ m ≡ sumsOf (numbers f) (now (weights .entry)) (side (now (shares .entry)) (now (table .entry)) cut) (sideOf (numbers f) k (take maxWidth (now (values .entry))) (take second v) next) (gatesIn (now (gates .entry))) ⌝ }
+    ensures { λ m. ⌜ m ≡ sumsOf (numbers f) (now (weights .entry)) (side (now (shares .entry)) (now (table .entry)) cut) (sideAt (numbers f) k (now (values .entry)) v second next) (gatesIn (now (gates .entry))) ⌝ }
 {
     let n = lists::least(MAX_WIDTH, values.len());
     let rcut = cut_at(k, second, next);
@@ -218,7 +217,7 @@ fn by_points(
     k: usize,
 ) -> [u32; 3]
     requires { ⌜ (first ≤ k) × (second ≤ k) × (k ≤ maxExponent) ⌝ }
-    ensures { λ m. ⌜ m ≡ sumsOf (numbers f) (now (weights .entry)) (sideOf (numbers f) k (take maxWidth (now (values .entry))) (take first u) (ltb first k)) (sideOf (numbers f) k (take maxWidth (now (values .entry))) (take second v) (leb k first)) (gatesIn (now (gates .entry))) ⌝ }
+    ensures { λ m. ⌜ m ≡ sumsOf (numbers f) (now (weights .entry)) (sideAt (numbers f) k (now (values .entry)) u first (ltb first k)) (sideAt (numbers f) k (now (values .entry)) v second (leb k first)) (gatesIn (now (gates .entry))) ⌝ }
 {
     let n = lists::least(MAX_WIDTH, values.len());
     let cut = cut_at(k, first, first < k);
@@ -254,7 +253,7 @@ pub fn sum_message(
     k: usize,
     fixed: usize,
 ) -> [u32; 3]
-    ensures { λ r. ⌜ r ≡ sumByGates (numbers f) (min k maxExponent) (gatesIn (now (gates .entry))) (take above point) (take maxWidth (now (values .entry))) (fixedFirst (min k maxExponent) fixed points) (fixedSecond (min k maxExponent) fixed points) ⌝ }
+    ensures { λ r. ⌜ r ≡ roundMessage (numbers f) (min k rowLength) (gatesIn (now (gates .entry))) (take above point) (now (values .entry)) points fixed ⌝ }
 {
     let exponent = lists::least(k, MAX_COORDINATES);
     let first = lists::least(fixed, exponent);

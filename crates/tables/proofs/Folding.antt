@@ -13,7 +13,7 @@ use Rattle.algebra.specs.Numbers.{Numbers}
 use Rattle.multilinear.specs.Extension.{between, fold}
 use Rattle.multilinear.specs.Tables.{folded}
 use Rattle.multilinear.proofs.Tables.{length-fold, getD-fold, folded-none, folded-one, folded-append}
-use Rattle.tables.specs.Table.{maxWidth}
+use Rattle.tables.specs.Limits.{tableWidth}
 use Rattle.tables.proofs.Front.{length-back, front-back}
 
 module _ {C : Type 0} (N : Numbers C) (r : C) (t₀ : List C) where
@@ -52,11 +52,11 @@ module _ {C : Type 0} (N : Numbers C) (r : C) (t₀ : List C) where
 module _ {C : Type 0} (N : Numbers C) (point vs : List C) where
   pub record Fixed (l : List C) (n i : ℕ) : Type 0 where
     pub reached : i ≤ length point
-    pub within : n ≤ maxWidth
-    pub size : length l ≡ maxWidth
+    pub within : n ≤ tableWidth
+    pub size : length l ≡ tableWidth
     pub holds : take n l ≡ folded N (take i point) vs
 
-  pub none-fixed : (l : List C) (n : ℕ) → n ≤ maxWidth → length l ≡ maxWidth → take n l ≡ vs → Fixed l n 0
+  pub none-fixed : (l : List C) (n : ℕ) → n ≤ tableWidth → length l ≡ tableWidth → take n l ≡ vs → Fixed l n 0
   none-fixed l n h size e = record {
     reached = omega arith;
     within = h;

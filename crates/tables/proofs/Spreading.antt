@@ -4,7 +4,7 @@
 use mathlib.Core.Path.{_≡_, refl, sym, ap, ap₂, _∙_}
 use mathlib.Core.List.{List, [], _∷_, _++_, map, append-assoc, append-nil}
 use Prim.Native.Nat.{ℕ, suc, _+_, _-_, _*_, _/_, _^_, _≤_, _<_}
-use native.Mathlib.Nat.{zero-add, suc-add, sub-self, two-pow-succ, pow-le-pow-right}
+use native.Mathlib.Nat.{zero-add, suc-add, sub-self, two-pow-succ}
 use native.Mathlib.Omega.{arith}
 use lib.ListN.{length, take, drop, getD, set, length-map, length-drop, length-append, take-append-drop, drop-of-length-le, List·getD-append}
 use lib.Seq.{length-take-le, getD-take, set-append-left, drop-cons, drop-drop, take-take}
@@ -14,8 +14,10 @@ use Rattle.lists.proofs.Map.{getD-map-lt}
 use Rattle.algebra.specs.Numbers.{Numbers}
 use Rattle.multilinear.specs.Tables.{weights}
 use Rattle.multilinear.proofs.Tables.{length-weights}
-use Rattle.tables.specs.Table.{maxWidth, spread}
-use Rattle.tables.proofs.Front.{length-back, front-back}
+use Rattle.extension.specs.Limits.{rowLength}
+use Rattle.tables.specs.Limits.{tableWidth}
+use Rattle.tables.specs.Table.{spread}
+use Rattle.tables.proofs.Front.{weights-fit, length-back, front-back}
 
 weights-more : {C : Type 0} (N : Numbers C) (z : C) (zs : List C) → weights N (z ∷ zs) ≡ spread N z (weights N zs)
 unfolding weights spread
@@ -120,12 +122,12 @@ module _ {C : Type 0} (N : Numbers C) (z : C) (t₀ : List C) where
 module _ {C : Type 0} (N : Numbers C) (point : List C) where
   pub record Weighed (l : List C) (n left : ℕ) : Type 0 where
     pub reached : left ≤ length point
-    pub few : length point ≤ 8
+    pub few : length point ≤ rowLength
     pub count : n ≡ 2 ^ (length point - left)
-    pub size : length l ≡ maxWidth
+    pub size : length l ≡ tableWidth
     pub holds : take n l ≡ weights N (drop left point)
 
-  pub none-weighed : (l : List C) (left : ℕ) → length point ≤ 8 → left ≡ length point → length l ≡ maxWidth → take 1 l ≡ N .𝟙 ∷ []
+  pub none-weighed : (l : List C) (left : ℕ) → length point ≤ rowLength → left ≡ length point → length l ≡ tableWidth → take 1 l ≡ N .𝟙 ∷ []
       → Weighed l 1 left
   unfolding weights
   none-weighed l left few e size h = record {
@@ -136,13 +138,16 @@ module _ {C : Type 0} (N : Numbers C) (point : List C) where
     holds = h ∙ sym (ap (weights N) (drop-of-length-le point {i = left} (omega arith)));
   }
 
-  pub few-weights : (l : List C) (n left k : ℕ) → Weighed l n left → length point - left ≤ k → n ≤ 2 ^ k
-  few-weights l n left k h le =
-      let bound : 2 ^ (length point - left) ≤ 2 ^ k = pow-le-pow-right (omega arith) le in omega (arith, h .count)
+  pub few-weights : (l : List C) (n left : ℕ) → Weighed l n left → n ≤ tableWidth
+  few-weights l n left h =
+      let few = h .few in omega (arith, h .count, weights-fit (length point - left) (omega arith))
 
   -- twice as many weights fit
-  pub room : (l : List C) (n left : ℕ) → Weighed l n left → 0 < left → 2 * n ≤ maxWidth
-  room l n left h more = let few = h .few in omega (arith, few-weights l n left 7 h (omega arith))
+  pub room : (l : List C) (n left : ℕ) → Weighed l n left → 0 < left → 2 * n ≤ tableWidth
+  room l n left h more =
+      let few = h .few in
+      let reached = h .reached in
+      omega (arith, h .count, two-pow-succ (length point - left), weights-fit (suc (length point - left)) (omega arith))
 
   pub weigh-next : (l part : List C) (n left : ℕ) (d z : C) → Weighed l n left → 0 < left → z ≡ getD point (left - 1) d
       → part ≡ over (spread N z (take (length (take (2 * n) l) / 2) (take (2 * n) l))) (take (2 * n) l)

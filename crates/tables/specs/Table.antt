@@ -1,23 +1,20 @@
--- Lists that stand at the front of an array of the widest layer's length.
+-- Lists that stand at the front of a table.
 -- Assumes nothing.
 use Prim.Native.Nat.{ℕ}
 use mathlib.Core.Path.{_≡_}
 use mathlib.Core.List.{List, _++_, map}
 use lib.ListN.{length, take}
 use Rattle.algebra.specs.Numbers.{Numbers}
-
--- the gates of the widest layer
-abbrev pub maxWidth : ℕ
-maxWidth = 256
+use Rattle.tables.specs.Limits.{tableWidth}
 
 pub record Table (entries table : List ℕ) : Type 0 where
-  pub size : length table ≡ maxWidth
+  pub size : length table ≡ tableWidth
   pub holds : take (length entries) table ≡ entries
 
 -- a lent array of that length gets the entries, and any other is left as it was
 pub record Written (entries before after : List ℕ) : Type 0 where
-  pub whole : length before ≡ maxWidth → Table entries after
-  pub other : (length before ≡ maxWidth → ⊥) → after ≡ before
+  pub whole : length before ≡ tableWidth → Table entries after
+  pub other : (length before ≡ tableWidth → ⊥) → after ≡ before
 
 -- the weights at a point with z before it, from those at the point
 unfoldable pub spread : {C : Type 0} → Numbers C → C → List C → List C

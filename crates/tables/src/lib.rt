@@ -10,9 +10,10 @@ ghost use Rattle.lists.specs.Buffer.{over};
 ghost use Rattle.field.specs.Modulus.{numbers};
 ghost use Rattle.multilinear.specs.Extension.{fold};
 ghost use Rattle.multilinear.specs.Tables.{weights, folded};
-ghost use Rattle.tables.specs.Table.{maxWidth, Written, spread};
+ghost use Rattle.tables.specs.Limits.{tableWidth};
+ghost use Rattle.tables.specs.Table.{Written, spread};
 
-// The gates of the widest layer.
+// The words of a table.
 pub const MAX_WIDTH: usize = 256;
 
 // Puts z before the point whose weights are the first half of a table: its two factors make two halves. What z takes of a weight is a product,
@@ -62,7 +63,7 @@ fn fold(f: Field, table: &mut [u32], r: u32)
 
 // Writes the values with their first variables fixed at the point to a table's front. Of more than MAX_WIDTH values the first MAX_WIDTH count.
 pub fn folded(f: Field, values: &[u32], row: [u32; MAX_COORDINATES], k: usize, table: &mut [u32])
-    ensures { λ _. ⌜ Written (folded (numbers f) (take k row) (take maxWidth (now (values .entry)))) (now (table .entry)) (now (table .exit)) ⌝ }
+    ensures { λ _. ⌜ Written (folded (numbers f) (take k row) (take tableWidth (now (values .entry)))) (now (table .entry)) (now (table .exit)) ⌝ }
 {
     if table.len() != MAX_WIDTH {
         return;

@@ -1,4 +1,4 @@
--- `line_message` meets its contract: the rows have eight words, so the parts that are lent are the first k of each.
+-- `line_message` meets its contract: the parts that are lent are the first k of each.
 -- Assumes nothing.
 use mathlib.Core.Path.{sym, ap₂, _∙_}
 use mathlib.Core.List.{List}
@@ -6,7 +6,7 @@ use Prim.Native.Nat.{ℕ}
 use native.Mathlib.Omega.{arith}
 use borrow.Author.Needs.{needs}
 use Rattle.field.specs.Modulus.{numbers}
-use Rattle.circuit.specs.Limits.{maxExponent}
+use Rattle.extension.specs.Limits.{rowLength}
 use Rattle.sumcheck.specs.Line.{lineHalving}
 use Rattle.summand.proofs.Rows.{length-row, row-holds, length-part, part-of-row}
 use Rattle.line.specs.Row.{padded}
@@ -54,7 +54,7 @@ halves-requires c κs =
     let counted = c .before .before .before .before .before in
     let start = counted .before .before in
     let rows = start .good .1 .1 .0 in
-    let size = length-row 2 maxExponent (start .args .t3) _ 0 rows (omega arith) in
+    let size = length-row 2 rowLength (start .args .t3) _ 0 rows (omega arith) in
     let within = row-holds (start .args .t3) _ 0 (start .args .k) _ rows (omega arith) (counted .least .ensures) in
     let part = length-part (start .args .t3) _ 0 (start .args .k) _ rows (omega arith) (counted .least .ensures) in (
       sym (length-part (start .args .t3) _ _ (start .args .k) _ rows (omega arith) (counted .least .ensures))

@@ -9,7 +9,7 @@ use Rattle.circuit.specs.Limits.{maxExponent}
 use Rattle.circuit.proofs.Layers.{prime-modulus}
 use Rattle.sumcheck.specs.Gatewise.{sumByGates}
 use Rattle.summand.specs.Gates.{gatesIn}
-use Rattle.tables.specs.Table.{maxWidth}
+use Rattle.tables.specs.Limits.{tableWidth}
 use Rattle.sums.specs.Round.{fixedFirst, fixedSecond}
 use Rattle.messages.proofs.Rows.{sum-words, sum-written}
 use borrow.Author.Needs.{needs}
@@ -65,7 +65,7 @@ returns c h nl =
     let said =
     sum-words l (start .args .layer) (start .args .round) past vs (start .args .buffer .now) h st t nl _
     (c .before .before .before .before .before .sum-message .ensures
-    ∙ ap (λ (p : ℕ). sumByGates (words p) k (gatesIn (take (st .to - st .from) (drop (st .from) l))) (take (st .above) (st .point)) (take maxWidth vs) (fixedFirst k (start .args .round) rows) (fixedSecond k (start .args .round) rows)) f) in
+    ∙ ap (λ (p : ℕ). sumByGates (words p) k (gatesIn (take (st .to - st .from) (drop (st .from) l))) (take (st .above) (st .point)) (take tableWidth vs) (fixedFirst k (start .args .round) rows) (fixedSecond k (start .args .round) rows)) f) in
     let words = c .before .before .before .before .before .sum-message .result in
     sum-written l (start .args .layer) (start .args .round) past vs (start .args .buffer .now) h words _ said (c .before .before .put .ensures)
 

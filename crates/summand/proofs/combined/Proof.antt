@@ -1,12 +1,31 @@
--- `combined` meets its contract: the rows have eight words, so the part that is lent is the first k; the rest is the definition, operation by
--- operation.
+-- `combined` meets its contract: the part that is lent of a row is its first k words, and of these the sums are those of the definition.
 -- Assumes nothing.
+use Prim.Native.Nat.{ℕ, _≤_, _<_}
+use mathlib.Core.Path.{_≡_}
+use mathlib.Core.List.{List, []}
+use lib.ListN.{length, getD, take}
 use native.Mathlib.Omega.{arith}
-use Rattle.summand.proofs.Rows.{row-holds, length-part, part-of-row}
-use Rattle.summand.proofs.Wires.{from-sums}
 use borrow.Author.Needs.{needs}
+use Rattle.summand.proofs.Rows.{row-holds, length-part, part-of-row}
+use Rattle.summand.proofs.Sums.{from-sums}
 use Rattle.summand.proofs.combined.Statement.{statement}
 use Rattle.summand.proofs.combined.Tie as tie
+
+-- where the rows are cut
+abbrev Cut : Type 0
+Cut = tie.After-least
+
+abbrev row : Cut → ℕ → List ℕ
+row o i = getD (o .before .before .before .args .t4) i []
+
+holds : (o : Cut) (i : ℕ) → i < 2 → o .least .result ≤ length (row o i)
+holds o i h = let start = o .before .before .before in row-holds (start .args .t4) _ i (start .args .k) _ (start .good .1 .1 .1 .0) h (o .least .ensures)
+
+lent : (o : Cut) (i : ℕ) → i < 2 → o .least .result ≡ length (take (o .least .result) (row o i))
+lent o i h = let start = o .before .before .before in length-part (start .args .t4) _ i (start .args .k) _ (start .good .1 .1 .1 .0) h (o .least .ensures)
+
+first : (o : Cut) (i : ℕ) → i < 2 → take (o .least .result) (row o i) ≡ take (o .before .before .before .args .k) (row o i)
+first o i h = let start = o .before .before .before in part-of-row (start .args .t4) _ i (start .args .k) _ (start .good .1 .1 .1 .0) h (o .least .ensures)
 
 least-requires : tie.Need-least-requires
 least-requires c κs = search needs
@@ -18,53 +37,27 @@ array-copy-out-v : tie.Need-array-copy-out-v
 array-copy-out-v c = search needs
 
 array-share-prefix-u : tie.Need-array-share-prefix-u
-array-share-prefix-u c =
-    let start = c .before .before .before .before .before in
-    row-holds (start .args .t4) _ 0 (start .args .k) _ (start .good .1 .1 .1 .0) (omega arith) (c .before .before .least .ensures)
+array-share-prefix-u c = holds (c .before .before) 0 (omega arith)
 
-slice-aggregate-wiring : tie.Need-slice-aggregate-wiring
-slice-aggregate-wiring c =
-    let start = c .before .before .before .before .before .before in
-    length-part (start .args .t4) _ 0 (start .args .k) _ (start .good .1 .1 .1 .0) (omega arith) (c .before .before .before .least .ensures)
+slice-aggregate-wirings : tie.Need-slice-aggregate-wirings
+slice-aggregate-wirings c = lent (c .before .before .before) 0 (omega arith)
 
 array-share-prefix-v : tie.Need-array-share-prefix-v
-array-share-prefix-v c =
-    let start = c .before .before .before .before .before .before in
-    row-holds (start .args .t4) _ 1 (start .args .k) _ (start .good .1 .1 .1 .0) (omega arith) (c .before .before .before .least .ensures)
+array-share-prefix-v c = holds (c .before .before .before) 1 (omega arith)
 
-slice-aggregate-wiring-2 : tie.Need-slice-aggregate-wiring-2
-slice-aggregate-wiring-2 c =
-    let start = c .before .before .before .before .before .before .before in
-    length-part (start .args .t4) _ 1 (start .args .k) _ (start .good .1 .1 .1 .0) (omega arith) (c .before .before .before .before .least .ensures)
+slice-aggregate-wirings-2 : tie.Need-slice-aggregate-wirings-2
+slice-aggregate-wirings-2 c = lent (c .before .before .before .before) 1 (omega arith)
 
-wiring-requires : tie.Need-wiring-requires
-wiring-requires c κs = search needs
+wirings-requires : tie.Need-wirings-requires
+wirings-requires c κs = search needs
 
-add-requires : tie.Need-add-requires
-add-requires c κs = search needs
-
-mul-requires : tie.Need-mul-requires
-mul-requires c κs = search needs
-
-mul-requires-2 : tie.Need-mul-requires-2
-mul-requires-2 c κs = search needs
-
-mul-requires-3 : tie.Need-mul-requires-3
-mul-requires-3 c κs = search needs
-
-add-requires-2 : tie.Need-add-requires-2
-add-requires-2 c κs = search needs
+by-kinds-requires : tie.Need-by-kinds-requires
+by-kinds-requires c κs = search needs
 
 returns : tie.Need-returns
 returns c =
-    let wired = c .before .before .before .before .before in
-    let start = c .before .before .before .before .before .before .before .before .before .before .before .before .before in
-    let n = c .before .before .before .before .before .before .before .before .before .before .least .result in
-    let counted = c .before .before .before .before .before .before .before .before .before .before .least .ensures in
-    let rows = start .good .1 .1 .1 .0 in
-    from-sums _ _ _ _ _ _ _ _ _ _ _ _ _ _ _ _ (part-of-row (start .args .t4) _ 0 (start .args .k) n rows (omega arith) counted)
-    (part-of-row (start .args .t4) _ 1 (start .args .k) n rows (omega arith) counted) (wired .wiring .ensures) (c .before .before .before .before .add .ensures)
-    (c .before .before .before .mul .ensures) (c .before .before .mul2 .ensures) (c .before .mul3 .ensures) (c .add2 .ensures)
+    let cut = c .before .before .before .before .before .before in
+    from-sums _ _ _ _ _ _ _ _ _ _ _ (first cut 0 (omega arith)) (first cut 1 (omega arith)) (c .before .wirings .ensures) (c .by-kinds .ensures)
 
 pub combined-spec : {M : Type 1} → statement M
 combined-spec =
@@ -74,13 +67,9 @@ combined-spec =
     array-copy-out-u
     array-copy-out-v
     array-share-prefix-u
-    slice-aggregate-wiring
+    slice-aggregate-wirings
     array-share-prefix-v
-    slice-aggregate-wiring-2
-    wiring-requires
-    add-requires
-    mul-requires
-    mul-requires-2
-    mul-requires-3
-    add-requires-2
+    slice-aggregate-wirings-2
+    wirings-requires
+    by-kinds-requires
     returns)

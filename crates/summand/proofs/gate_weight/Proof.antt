@@ -1,12 +1,8 @@
--- `gate_weight` meets its contract: one return for an empty gate, and one that is the definition, operation by operation.
+-- `gate_weight` meets its contract: it is the definition, operation by operation.
 -- Assumes nothing.
-use borrow.Author.Tests.{eq-eqb, ne-eqb}
 use borrow.Author.Needs.{needs}
 use Rattle.summand.proofs.gate_weight.Statement.{statement}
 use Rattle.summand.proofs.gate_weight.Tie as tie
-
-returns : tie.Need-returns
-returns c = simp (eq-eqb _ 0 (c .if1 .taken))
 
 weight-of-requires : tie.Need-weight-of-requires
 weight-of-requires c κs = search needs
@@ -23,18 +19,16 @@ mul-requires c κs = search needs
 mul-requires-2 : tie.Need-mul-requires-2
 mul-requires-2 c κs = search needs
 
-returns-2 : tie.Need-returns-2
-returns-2 c =
-    let other = ne-eqb _ 0 (c .before .before .before .before .before .if1 .left) in simp other cc
+returns : tie.Need-returns
+returns c = cc
 
 pub gate-weight-spec : {M : Type 1} → statement M
 gate-weight-spec =
     tie.close
     (tie.spec
-    returns
     weight-of-requires
     weight-of-requires-2
     weight-of-requires-3
     mul-requires
     mul-requires-2
-    returns-2)
+    returns)

@@ -29,7 +29,7 @@ empty-requires-3 c κs = search needs
 loop-holds : tie.Need-loop-holds Inv-loop μ-loop
 loop-holds c =
     let p = modulus (c .before .before .before .before .before .before .before .before .before .args .f) in
-    start _ _ _ _ _ _ _ _ (c .before .before .empty .ensures p) (c .before .empty2 .ensures p) (c .empty3 .ensures p)
+    start _ _ _ _ _ (c .before .before .empty .ensures p) (c .before .empty2 .ensures p) (c .empty3 .ensures p)
 
 sub-a : tie.Need-sub-a Inv-loop μ-loop
 sub-a c = search needs
@@ -95,10 +95,14 @@ loop-again c =
     let second = weighed .before .before in
     let first = second .before .before in
     let here = first .before .before .before in
-    step _ _ _ _ _ _ _ _ _ (weighed .word .result) (first .read-wire .result) (second .read-wire2 .result)
-    (counted .count-gate .result) _ _ _ (here .loop .inv) (search needs) (weighed .word .ensures)
-    (first .read-wire .ensures) (second .read-wire2 .ensures)
-    (counted .count-gate .ensures) (c .before .before .plus .ensures) (c .before .plus2 .ensures) (c .plus3 .ensures)
+    step _ _ _ _ _ (here .loop .inv) (search needs)
+    record {
+      weighed = weighed .word .ensures;
+      on-left = first .read-wire .ensures;
+      on-right = second .read-wire2 .ensures;
+      counts = counted .count-gate .ensures;
+    }
+    (c .before .before .plus .ensures) (c .before .plus2 .ensures) (c .plus3 .ensures)
 
 residue-requires : tie.Need-residue-requires Inv-loop μ-loop
 residue-requires c κs = search needs
@@ -120,7 +124,7 @@ returns c =
     let constant = c .before .before .before .before in
     let square = c .before .before .before in
     let ones = c .before .before in
-    end _ _ _ _ _ _ _ _ _ _ _ _ _ _ (constant .before .before .loop .inv) (search needs)
+    end _ _ _ _ _ (constant .before .before .loop .inv) (search needs)
     (constant .residue .ensures) (ones .residue3 .ensures) (square .residue2 .ensures) (c .before .sub .ensures) (c .sub2 .ensures)
 
 pub by-gates-spec : {M : Type 1} → statement M

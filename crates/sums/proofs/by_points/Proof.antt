@@ -3,11 +3,12 @@
 use mathlib.Core.Path.{_≡_, refl, ap, _∙_}
 use native.Mathlib.Omega.{arith}
 use lib.Dec.{leb}
-use lib.ListN.{length, take}
+use lib.ListN.{length}
+use Rattle.extension.specs.Limits.{rowLength}
 use Rattle.field.specs.Modulus.{modulus, numbers}
-use Rattle.tables.specs.Table.{maxWidth}
-use Rattle.sumcheck.specs.Gatewise.{sideOf, sumsOf}
+use Rattle.sumcheck.specs.Gatewise.{sumsOf}
 use Rattle.summand.specs.Gates.{gatesIn}
+use Rattle.sums.specs.Round.{sideAt}
 use borrow.Author.Needs.{needs}
 use Rattle.sums.proofs.Fronts.{cut-fits, width-within, values-within, lent, fixed-side}
 use Rattle.sums.proofs.by_points.Statement.{statement}
@@ -73,7 +74,7 @@ returns c =
     let start = c .before .before .before .before .before .before .before .before .before .before .before .before .before .before .before in
     let args = start .args in
     let within = start .pre in
-    let size : length (args .u) ≡ 8 = search needs in
+    let size : length (args .u) ≡ rowLength = search needs in
     let sized = c .before .before .before in
     let fixed = sized .before .before in
     let made = fixed .before .before .before in
@@ -81,7 +82,7 @@ returns c =
     let p = modulus (args .f) in
     c .by-side .ensures
     ∙ ap (λ l. sumsOf (numbers (args .f)) (args .weights .now) l
-    (sideOf (numbers (args .f)) (args .k) (take maxWidth (args .values .now)) (take (args .second) (args .v)) (leb (args .k) (args .first)))
+    (sideAt (numbers (args .f)) (args .k) (args .values .now) (args .v) (args .second) (leb (args .k) (args .first)))
     (gatesIn (args .gates .now)))
     (fixed-side p (args .k) (args .first) _ _ _ (args .values .now) (args .u) _ _ _ (omega arith) (omega arith)
     (at .cut-at .ensures) (at .before .least .ensures) (sized .width .ensures)

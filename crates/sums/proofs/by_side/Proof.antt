@@ -4,6 +4,7 @@
 use mathlib.Core.Path.{_≡_, refl, ap, _∙_}
 use native.Mathlib.Omega.{arith}
 use lib.ListN.{length}
+use Rattle.extension.specs.Limits.{rowLength}
 use Rattle.field.specs.Modulus.{modulus, numbers}
 use Rattle.sumcheck.specs.Gatewise.{sumsOf}
 use Rattle.summand.specs.Gates.{gatesIn}
@@ -102,7 +103,7 @@ returns-2 c =
     let args = start .args in
     let within = start .pre in
     let whole = start .good .1 .1 .1 .1 .1 .1 .1 .0 in
-    let size : length (args .v) ≡ 8 = search needs in
+    let size : length (args .v) ≡ rowLength = search needs in
     c .by-gates2 .ensures
     ∙ ap (λ r. sumsOf (numbers (args .f)) (args .weights .now)
     (side (args .shares .now) (args .table .now) (args .cut)) r (gatesIn (args .gates .now)))

@@ -8,15 +8,16 @@ use lib.ListN.{length, take, getD}
 use lib.Seq.{length-take-le, getD-take}
 use Rattle.lists.proofs.Buffer.{put-size, put-front}
 use Rattle.lists.proofs.Parts.{length-most}
+use Rattle.extension.specs.Limits.{rowLength}
 use Rattle.field.specs.Modulus.{numbers}
-use Rattle.tables.specs.Table.{maxWidth}
+use Rattle.tables.specs.Limits.{tableWidth}
 use Rattle.tables.proofs.Front.{table}
 use Rattle.tables.proofs.Folding.{Fixed, none-fixed, fix-next, all-fixed}
 use Rattle.tables.proofs.folded.Statement.{statement}
 use Rattle.tables.proofs.folded.Tie as tie
 
 abbrev Inv-loop : tie.InvT-loop
-Inv-loop f values k table₀ row n₀ i₀ i-end table n i = Fixed (numbers f) (take k row) (take maxWidth values) table n i
+Inv-loop f values k table₀ row n₀ i₀ i-end table n i = Fixed (numbers f) (take k row) (take tableWidth values) table n i
 
 abbrev μ-loop : tie.MeasureT-loop
 μ-loop f values k table₀ row n₀ i₀ i-end table n i = i-end - i
@@ -40,9 +41,9 @@ loop-holds c =
     let values = start .args .values .now in
     let table = start .args .table .now in
     let size = written .before .before .if1 .left in
-    let count : c .before .least .result ≡ length (take maxWidth values) = length-most maxWidth _ _ values refl (c .before .least .ensures) in
-    none-fixed _ _ _ _ (c .before .least .result) (omega (arith, c .before .least .ensures)) (put-size values table _ maxWidth size (written .put .ensures))
-    (ap (λ (n : ℕ). take n (written .put .last .0)) count ∙ put-front values table _ maxWidth size (written .put .ensures))
+    let count : c .before .least .result ≡ length (take tableWidth values) = length-most tableWidth _ _ values refl (c .before .least .ensures) in
+    none-fixed _ _ _ _ (c .before .least .result) (omega (arith, c .before .least .ensures)) (put-size values table _ tableWidth size (written .put .ensures))
+    (ap (λ (n : ℕ). take n (written .put .last .0)) count ∙ put-front values table _ tableWidth size (written .put .ensures))
 
 slice-relend-prefix-fold : tie.Need-slice-relend-prefix-fold Inv-loop μ-loop
 slice-relend-prefix-fold c = search needs
@@ -75,7 +76,7 @@ loop-again c =
     let row = start .args .t3 in
     let k = start .args .k in
     let least = at .before .least2 .ensures in
-    let count = length-most k 8 _ row (search needs) least in
+    let count = length-most k rowLength _ row (search needs) least in
     fix-next _ _ _ (at .loop .table) (c .before .before .fold .last .1 .0) (at .loop .n) i 0 (getD row i 0) (at .loop .inv) (search needs)
     (sym (getD-take k row i 0 (search needs))) (c .before .before .fold .ensures)
 
@@ -86,7 +87,7 @@ returns-2 : tie.Need-returns-2 Inv-loop μ-loop
 returns-2 c =
     let at = c .before in
     let start = at .before .before .before .before .before .before .before .before .before .before in
-    let count = length-most (start .args .k) 8 _ (start .args .t3) (search needs) (at .before .least2 .ensures) in
+    let count = length-most (start .args .k) rowLength _ (start .args .t3) (search needs) (at .before .least2 .ensures) in
     let front = table _ _ (at .loop .n) (at .loop .inv .size) (at .loop .inv .within)
     (all-fixed _ _ _ _ _ (at .loop .i) (at .loop .inv) (search needs)) in
     record { whole = λ _. front; other = λ other. absurd (other (at .before .before .before .before .before .before .before .if1 .left)) }

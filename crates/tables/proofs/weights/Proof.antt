@@ -7,6 +7,7 @@ use mathlib.Core.Path.{_≡_, refl, sym, _∙_}
 use lib.ListN.{length, take, getD, length-take, length-set}
 use lib.Seq.{length-take-le, getD-take, take-suc-set}
 use Rattle.lists.proofs.Parts.{length-most}
+use Rattle.extension.specs.Limits.{rowLength}
 use Rattle.field.specs.Modulus.{numbers}
 use Rattle.tables.proofs.Front.{table}
 use Rattle.tables.proofs.Spreading.{Weighed, none-weighed, few-weights, room, weigh-next, all-weighed}
@@ -34,7 +35,7 @@ loop-holds c =
     let k = start .args .k in
     let row = start .args .t2 in
     let least = c .least .ensures in
-    let count : c .least .result ≡ length (take k row) = length-most k 8 _ row (search needs) least in
+    let count : c .least .result ≡ length (take k row) = length-most k rowLength _ row (search needs) least in
     let table = start .args .table .now in
     let size = c .before .if1 .left in
     none-weighed _ _ _ (c .least .result) (omega arith) count (length-set table 0 _ ∙ size) (take-suc-set table 0 _ (omega arith))
@@ -88,8 +89,7 @@ same-length c = c .before .loop .inv .size ∙ sym (c .before .before .before .i
 returns-2 : tie.Need-returns-2 Inv-loop μ-loop
 returns-2 c =
     let at = c .before in
-    let few = at .loop .inv .few in
-    let front = table _ _ (at .loop .n) (at .loop .inv .size) (few-weights _ _ _ _ (at .loop .left) 8 (at .loop .inv) (omega arith))
+    let front = table _ _ (at .loop .n) (at .loop .inv .size) (few-weights _ _ _ _ (at .loop .left) (at .loop .inv))
     (all-weighed _ _ _ _ (at .loop .left) (at .loop .inv) (search needs)) in
     record { whole = λ _. front; other = λ other. absurd (other (at .before .before .if1 .left)) }
 
