@@ -44,8 +44,8 @@ fn write_messages(circuit: &[u32], messages: &[u32], text: &mut [u8]) -> usize
 {
     let mut at = 0;
     let mut to = 0;
-    for layer in 1..circuit[1] as usize + 1 {
-        for round in 0..2 * standing::exponent(circuit, layer) as usize + 1 {
+    for layer in 1..layout::depth(circuit) + 1 {
+        for round in 0..2 * layout::exponent(circuit, layer) as usize + 1 {
             let end = at + standing::message_length(circuit, layer, round);
             to += write_message(circuit, layer, round, &messages[at..end], &mut text[to..]);
             at = end;

@@ -34,8 +34,8 @@ fn walk(circuit: &[u32], input: &[u32], output: u32, coins: &[u32], messages: &[
     requires { ⌜ Counted (now circuit) (now input) (now coins) (now messages) ⌝ }
     ensures { λ r. ⌜ outcomeOf r ≡ walk (descent (now (circuit .entry)) (now (input .entry))) (rounds (now (circuit .entry))) [] output (now (messages .entry)) (now (coins .entry)) ⌝ }
 {
-    let f = Field::of(circuit[0]);
-    let depth = circuit[1] as usize;
+    let f = Field::of(layout::prime(circuit));
+    let depth = layout::depth(circuit);
     let mut claim = output;
     let mut layer = 1;
     let mut n = 0;
@@ -44,7 +44,7 @@ fn walk(circuit: &[u32], input: &[u32], output: u32, coins: &[u32], messages: &[
         if depth < layer {
             break 'walk finish(circuit, input, coins, claim);
         }
-        for round in 0..2 * standing::exponent(circuit, layer) as usize + 1 {
+        for round in 0..2 * layout::exponent(circuit, layer) as usize + 1 {
             let end = at + standing::message_length(circuit, layer, round);
             let message = &messages[at..end];
             let judged = judgement::judge(circuit, layer, round, &coins[..n], claim, message);

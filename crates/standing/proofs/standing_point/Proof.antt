@@ -75,8 +75,8 @@ part-row-end-2 c = search needs
 row-requires-2 : tie.Need-row-requires-2
 row-requires-2 c κs = search needs
 
-word-requires : tie.Need-word-requires
-word-requires c κs = search needs
+prime-requires : tie.Need-prime-requires
+prime-requires c κs = search needs
 
 of-requires : tie.Need-of-requires
 of-requires c κs = search needs
@@ -96,7 +96,7 @@ returns-3 c h =
     let start = at .before .before .before .before in
     let l = start .args .circuit .now in
     let past = start .args .past .now in
-    let f = prime-modulus l (h .legal) _ (c .before .before .of .ensures ∙ ap (λ (p : ℕ). p - 1) (c .before .before .before .word .ensures)) in
+    let f = prime-modulus l (h .legal) _ _ (c .before .before .before .prime .ensures) (c .before .before .of .ensures) in
     let first = c .before .before .before .before .before .before .row in
     let second = c .before .before .before .before .row2 in
     let line = c .line-point .ensures ∙ ap (λ (p : ℕ). linePoint (words p) (first .result) (second .result) (getD past (length past - 1) 0)) f in
@@ -127,7 +127,7 @@ standing-point-spec =
     part-row-start-2
     part-row-end-2
     row-requires-2
-    word-requires
+    prime-requires
     of-requires
     mul-line-point
     shared-slice-read-line-point

@@ -1,7 +1,7 @@
 -- `write_messages` meets its contract: the lines written and those left are the whole; the loops end where none is left.
 -- Assumes nothing.
 use Prim.Native.Nat.{ℕ, _+_, _-_, _*_, _≤_, _<_}
-use mathlib.Core.Path.{_≡_, refl, ap, subst}
+use mathlib.Core.Path.{_≡_, ap, subst}
 use mathlib.Core.List.{List}
 use native.Mathlib.Omega.{arith}
 use borrow.Author.Needs.{needs}
@@ -28,16 +28,8 @@ Inv-loop circuit messages text₀ at₀ to₀ layer₀ layer-end text at to laye
 abbrev μ-loop : tie.MeasureT-loop
 μ-loop circuit messages text₀ at₀ to₀ layer₀ layer-end text at to layer = layer-end - layer
 
-shared-slice-read-layer-end :
-    tie.Need-shared-slice-read-layer-end Inv-loop2 μ-loop2 Inv-loop μ-loop
-shared-slice-read-layer-end c =
-    let long = c .before .before .before .before .pre .0 .sized .headed .long in
-    omega arith
-
-cast-layer-end : tie.Need-cast-layer-end Inv-loop2 μ-loop2 Inv-loop μ-loop
-cast-layer-end c =
-    let long = c .before .before .before .before .pre .0 .sized .headed .long in
-    search needs
+depth-requires : tie.Need-depth-requires Inv-loop2 μ-loop2 Inv-loop μ-loop
+depth-requires c κs = search needs
 
 add-layer-end : tie.Need-add-layer-end Inv-loop2 μ-loop2 Inv-loop μ-loop
 add-layer-end c = search needs
@@ -46,7 +38,7 @@ loop-holds : tie.Need-loop-holds Inv-loop2 μ-loop2 Inv-loop μ-loop
 loop-holds c =
     let start = c .before .before .before .before in
     let a = start .args in
-    (refl, lines-start (a .circuit .now) (a .messages .now) (a .text .now) (start .pre .0) (start .pre .1))
+    (ap (λ (n : ℕ). n + 1) (c .depth .ensures .0), lines-start (a .circuit .now) (a .messages .now) (a .text .now) (start .pre .0) (start .pre .1))
 
 exponent-requires : tie.Need-exponent-requires Inv-loop2 μ-loop2 Inv-loop μ-loop
 exponent-requires c κs = search needs
@@ -198,7 +190,7 @@ loop-again c =
     let start = c .before .before .before .before .before .before .before .before .before in
     let l = start .args .circuit .now in
     let first = start .args .text .now in (
-      refl,
+      over .inv .0,
       layer-ends l (start .args .messages .now) first (start .pre .0) (at .text) (at .at) (at .to) (over .layer) (at .round)
           (at .inv .1 first (over .inv .1)) (subst (λ (i : ℕ). i ≤ at .round) (at .inv .0) (c .loop2-test .left)),
     )
@@ -223,8 +215,7 @@ write-messages-spec =
     μ-loop2
     Inv-loop
     μ-loop
-    shared-slice-read-layer-end
-    cast-layer-end
+    depth-requires
     add-layer-end
     loop-holds
     exponent-requires
