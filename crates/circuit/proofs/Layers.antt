@@ -21,6 +21,7 @@ use Rattle.circuit.specs.Values.{layersFrom, layers, valuesAt, value}
 use Rattle.circuit.specs.Theorems.{LegalPrime, ValuesAreResidues, LayerSizes, LastLayer, LayerByLayer, WiresBelow, OutputLayer}
 use Rattle.circuit.proofs.Operate.{operate-below}
 use Rattle.circuit.proofs.Sized.{one-output, deep}
+use Rattle.circuit.proofs.Gates.{length-layers}
 use Rattle.circuit.proofs.Loading.{split-true, legal-circuit, legal-lists}
 use Rattle.circuit.proofs.Legal.{gate-wires, length-gates}
 
@@ -60,11 +61,6 @@ values-are-residues c input e =
     layers-below (primeOf c) (omega arith) (gateLayers c) input (all-below (primeOf c) input (legal .residues))
 
 -- SIZES
-length-layers : (k : ℕ) (ks ws : List ℕ) → length (layersOf k ks ws) ≡ length ks
-unfolding layersOf
-length-layers k [] ws = refl
-length-layers k (k′ ∷ ks) ws = ap suc (length-layers k′ ks (drop (3 * 2 ^ k) ws))
-
 sizes-from : (N : Numbers ℕ) (k : ℕ) (ks ws input : List ℕ) (i : ℕ) → i ≤ length ks → length input ≡ 2 ^ getD (k ∷ ks) (length ks) 0
     → length (getD (layersFrom N (layersOf k ks ws) input) i []) ≡ 2 ^ getD (k ∷ ks) i 0
 unfolding layersFrom layersOf
@@ -170,6 +166,6 @@ value-below c input e =
     let two = listed-prime (primeOf c) (legal-lists c input e .circuit .listed) .two-le in
     first-below (primeOf c) (omega arith) (layers c input) (values-are-residues c input e)
 
--- the largest residue of a listed prime
-pub prime-modulus : (c : List ℕ) → LegalCircuit c → (largest : ℕ) → largest ≡ primeOf c - 1 → largest + 1 ≡ primeOf c
-prime-modulus c h largest e = let two = listed-prime (primeOf c) (h .listed) .two-le in omega arith
+-- the largest residue of a listed prime, from the prime as it is read
+pub prime-modulus : (c : List ℕ) → LegalCircuit c → (p largest : ℕ) → p ≡ primeOf c → largest ≡ p - 1 → largest + 1 ≡ primeOf c
+prime-modulus c h p largest e l = let two = listed-prime (primeOf c) (h .listed) .two-le in omega arith

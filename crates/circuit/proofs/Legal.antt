@@ -90,15 +90,15 @@ gates-cons n at c =
     let zeroth : getD (drop at c) 0 0 ≡ getD c at 0 = getD-drop at c 0 0 ∙ ap (λ (k : ℕ). getD c k 0) (add-zero at) in
     rw (zeroth, getD-drop at c 1 0, getD-drop at c 2 0, drop-drop 3 at c)
 
-pub gates-at : (next count i at : ℕ) (c : List ℕ) → i < count
-    → gatesCause next (gatesOf (count - i) (drop (at + 3 * i) c))
-    ≡ first (gateCause next (gate (getD c (at + 3 * i) 0) (getD c (at + 3 * i + 1) 0) (getD c (at + 3 * i + 2) 0)))
-    (gatesCause next (gatesOf (count - (i + 1)) (drop (at + 3 * (i + 1)) c)))
+pub gates-at : (next count i : ℕ) (ws : List ℕ) → i < count
+    → gatesCause next (gatesOf (count - i) (drop (3 * i) ws))
+    ≡ first (gateCause next (gate (getD ws (3 * i) 0) (getD ws (3 * i + 1) 0) (getD ws (3 * i + 2) 0)))
+    (gatesCause next (gatesOf (count - (i + 1)) (drop (3 * (i + 1)) ws)))
 unfolding gatesCause
-gates-at next count i at c h =
+gates-at next count i ws h =
     let more : count - i ≡ suc (count - (i + 1)) = omega arith in
-    let on : at + 3 * (i + 1) ≡ at + 3 * i + 3 = omega arith in
-    rw (more, on, gates-cons (count - (i + 1)) (at + 3 * i) c)
+    let on : 3 * (i + 1) ≡ 3 * i + 3 = omega arith in
+    rw (more, on, gates-cons (count - (i + 1)) (3 * i) ws)
 
 pub gates-end : (next count i : ℕ) (ws : List ℕ) → count ≤ i → gatesCause next (gatesOf (count - i) ws) ≡ 0
 unfolding gatesCause gatesOf

@@ -1,19 +1,19 @@
 -- Load's answer, refusal by refusal, in the order in which they are tried.
 -- Assumes nothing.
-use Prim.Native.Nat.{ℕ, _+_, _-_, _*_, _≤_, _<_}
+use Prim.Native.Nat.{ℕ, _+_, _≤_, _<_}
 use mathlib.Core.Path.{_≡_, refl, sym, ap, _∙_}
 use mathlib.Core.Bool.{Bool, true, false, not, _&&_, false≢true}
 use mathlib.Core.List.{List}
 use native.Mathlib.Omega.{arith}
 use lib.Dec.{eqb, leb}
-use lib.ListN.{length, take, drop, length-drop, length-take}
+use lib.ListN.{length}
 use borrow.Author.Tests.{lt-leb, le-leb, eq-eqb, ne-eqb, leb-true, eqb-true}
 use Rattle.refusal.specs.Number.{numberOf}
 use Rattle.refusal.specs.declared.Cause.{Cause}
 use Rattle.refusal.proofs.Order.{need-none, first-none, refused-first}
 use Rattle.primes.specs.Prime.{isListed}
-use Rattle.circuit.specs.Limits.{maxDepth, maxExponent}
-use Rattle.circuit.specs.Circuit.{primeOf, depth, exponents, gateLayers, wordCount, outputExponent, gateCount, inputCount}
+use Rattle.circuit.specs.Limits.{headerWords, maxDepth, maxExponent}
+use Rattle.circuit.specs.Circuit.{primeOf, depth, exponents, gateLayers, wordCount, inputCount}
 use Rattle.circuit.specs.Legal.{allBelow, depthGood, exponentsGood, layersCause, loadAnswer, inputCause, listsCause}
 use Rattle.circuit.specs.Sized.{Exponents, LegalCircuit}
 
@@ -39,20 +39,27 @@ second-false : (a : Bool) {b : Bool} → b ≡ false → (a && b) ≡ false
 second-false true e = e
 second-false false e = refl
 
-module _ (c : List ℕ) where
-  pub load-short : length c < 2 → loadAnswer c ≡ 1
-  unfolding loadAnswer
-  load-short h = simp (lt-leb 2 (length c) h)
+-- none of 1 to 3
+pub record Ranged (c : List ℕ) : Type 0 where
+  pub headed : leb headerWords (length c) ≡ true
+  pub listed : isListed (primeOf c) ≡ true
+  pub low : 1 ≤ depth c
+  pub high : depth c ≤ maxDepth
 
-  module _ (two : 2 ≤ length c) where
+module _ (c : List ℕ) where
+  pub load-short : leb headerWords (length c) ≡ false → loadAnswer c ≡ 1
+  unfolding loadAnswer
+  load-short h = simp h
+
+  module _ (two : leb headerWords (length c) ≡ true) where
     pub load-prime : isListed (primeOf c) ≡ false → loadAnswer c ≡ 2
     unfolding loadAnswer
-    load-prime h = simp (le-leb 2 (length c) two, h)
+    load-prime h = simp (two, h)
 
     module _ (listed : isListed (primeOf c) ≡ true) where
       load-depth : depthGood c ≡ false → loadAnswer c ≡ 3
       unfolding loadAnswer
-      load-depth h = simp (le-leb 2 (length c) two, listed, h)
+      load-depth h = simp (two, listed, h)
 
       pub load-flat : depth c < 1 → loadAnswer c ≡ 3
       load-flat h = load-depth (ap (λ (x : Bool). x && leb (depth c) maxDepth) (lt-leb 1 (depth c) h))
@@ -60,54 +67,32 @@ module _ (c : List ℕ) where
       pub load-deep : maxDepth < depth c → loadAnswer c ≡ 3
       load-deep h = load-depth (second-false (leb 1 (depth c)) (lt-leb (depth c) maxDepth h))
 
-      module _ (low : 1 ≤ depth c) (high : depth c ≤ maxDepth) where
-        depth-good : depthGood c ≡ true
-        depth-good = both-true (le-leb 1 (depth c) low) (le-leb (depth c) maxDepth high)
+  module _ (r : Ranged c) where
+    depth-good : depthGood c ≡ true
+    depth-good = both-true (le-leb 1 (depth c) (r .low)) (le-leb (depth c) maxDepth (r .high))
 
-        load-exponents : exponentsGood c ≡ false → loadAnswer c ≡ 4
-        unfolding loadAnswer
-        load-exponents h = simp (le-leb 2 (length c) two, listed, depth-good, h)
+    load-exponents : exponentsGood c ≡ false → loadAnswer c ≡ 4
+    unfolding loadAnswer
+    load-exponents h = simp (r .headed, r .listed, depth-good, h)
 
-        pub load-ends : length c < 2 + depth c → loadAnswer c ≡ 4
-        unfolding exponents
-        load-ends h =
-            let short : eqb (length (exponents c)) (depth c) ≡ false =
-            ne-eqb (length (exponents c)) (depth c) (λ e. omega (arith, length-take (depth c) (drop 2 c), length-drop 2 c, e, h)) in
-            load-exponents (ap (λ (x : Bool). x && allBelow (maxExponent + 1) (exponents c)) short)
+    pub load-ends : ¬ (length (exponents c) ≡ depth c) → loadAnswer c ≡ 4
+    load-ends h =
+        load-exponents (ap (λ (x : Bool). x && allBelow (maxExponent + 1) (exponents c)) (ne-eqb (length (exponents c)) (depth c) h))
 
-        pub load-wide : allBelow (maxExponent + 1) (exponents c) ≡ false → loadAnswer c ≡ 4
-        load-wide h = load-exponents (second-false (eqb (length (exponents c)) (depth c)) h)
+    pub load-wide : allBelow (maxExponent + 1) (exponents c) ≡ false → loadAnswer c ≡ 4
+    load-wide h = load-exponents (second-false (eqb (length (exponents c)) (depth c)) h)
 
-        module _ (long : 2 + depth c ≤ length c) (small : allBelow (maxExponent + 1) (exponents c) ≡ true) where
-          exponents-good : exponentsGood c ≡ true
-          unfolding exponents
-          exponents-good =
-              both-true (eq-eqb (length (exponents c)) (depth c) (omega (arith, length-take (depth c) (drop 2 c), length-drop 2 c, long))) small
+    module _ (x : Exponents c) where
+      exponents-good : exponentsGood c ≡ true
+      exponents-good = both-true (eq-eqb (length (exponents c)) (depth c) (x .whole)) (x .small)
 
-          pub load-count : ¬ (length c ≡ wordCount c) → loadAnswer c ≡ 5
-          unfolding loadAnswer
-          load-count h = simp (le-leb 2 (length c) two, listed, depth-good, exponents-good, ne-eqb (length c) (wordCount c) h)
+      pub load-count : ¬ (length c ≡ wordCount c) → loadAnswer c ≡ 5
+      unfolding loadAnswer
+      load-count h = simp (r .headed, r .listed, depth-good, exponents-good, ne-eqb (length c) (wordCount c) h)
 
-          pub load-gates : length c ≡ wordCount c → loadAnswer c ≡ layersCause (exponents c) (gateLayers c)
-          unfolding loadAnswer
-          load-gates h = simp (le-leb 2 (length c) two, listed, depth-good, exponents-good, eq-eqb (length c) (wordCount c) h)
-
-          pub headed : Exponents c (depth c)
-          headed = record { is-depth = refl; shallow = high; long = long; small = small }
-
-pub count-words : (c : List ℕ) → 2 + depth c + 3 * gateCount (outputExponent c) (exponents c) ≡ wordCount c
-unfolding wordCount
-count-words c = refl
-
--- the exponents, as a part of the list
-pub exponents-part : (c : List ℕ) → take (2 + depth c - 2) (drop 2 c) ≡ exponents c
-unfolding exponents
-exponents-part c = let n : 2 + depth c - 2 ≡ depth c = omega arith in rw n
-
--- the exponents fill their place only in a list that is long enough
-enough : (c : List ℕ) → 2 ≤ length c → length (exponents c) ≡ depth c → 2 + depth c ≤ length c
-unfolding exponents
-enough c h q = omega (arith, length-take (depth c) (drop 2 c), length-drop 2 c, q, h)
+      pub load-gates : length c ≡ wordCount c → loadAnswer c ≡ layersCause (exponents c) (gateLayers c)
+      unfolding loadAnswer
+      load-gates h = simp (r .headed, r .listed, depth-good, exponents-good, eq-eqb (length c) (wordCount c) h)
 
 -- NO REFUSAL: what it says of the list
 pub split-true : (a b : Bool) → (a && b) ≡ true → (a ≡ true) × (b ≡ true)
@@ -117,7 +102,7 @@ split-true false b e = absurd (false≢true e)
 pub legal-circuit : (c : List ℕ) → loadAnswer c ≡ 0 → LegalCircuit c
 unfolding loadAnswer
 legal-circuit c e =
-    let two = need-none (leb 2 (length c)) 0 _ e in
+    let two = need-none (leb headerWords (length c)) 0 _ e in
     let listed = need-none (isListed (primeOf c)) 1 _ (two .1) in
     let deep = need-none (depthGood c) 2 _ (listed .1) in
     let wide = need-none (exponentsGood c) 3 _ (deep .1) in
@@ -127,9 +112,8 @@ legal-circuit c e =
     record {
       sized = record {
         headed = record {
-          is-depth = refl;
           shallow = leb-true (depth c) maxDepth (range .1);
-          long = enough c (leb-true 2 (length c) (two .0)) (eqb-true (length (exponents c)) (depth c) (exps .0));
+          whole = eqb-true (length (exponents c)) (depth c) (exps .0);
           small = exps .1;
         };
         counted = eqb-true (length c) (wordCount c) (full .0);

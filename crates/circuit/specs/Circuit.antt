@@ -7,7 +7,7 @@ use mathlib.Core.List.{List, [], _∷_, map}
 use lib.Dec.{leb}
 use lib.ListN.{length, take, drop, getD}
 use Rattle.lists.specs.Count.{sum}
-use Rattle.circuit.specs.Limits.{maxExponent}
+use Rattle.circuit.specs.Limits.{headerWords, maxExponent}
 use Rattle.circuit.specs.Gate.{Gate, gate}
 
 abbrev pub primeOf : List ℕ → ℕ
@@ -18,7 +18,7 @@ depth c = getD c 1 0
 
 -- k_1 to k_D
 unfoldable pub exponents : List ℕ → List ℕ
-exponents c = take (depth c) (drop 2 c)
+exponents c = take (depth c) (drop headerWords c)
 
 -- k_0: it "is 0 and not written"
 unfoldable pub outputExponent : List ℕ → ℕ
@@ -49,11 +49,19 @@ gateCount k (k′ ∷ ks) = 2 ^ k + gateCount k′ ks
 
 -- where the gates start
 abbrev pub gatesStart : List ℕ → ℕ
-gatesStart c = 2 + depth c
+gatesStart c = headerWords + depth c
+
+-- the words of n gates, from gate number i on
+abbrev pub gateWords : List ℕ → ℕ → ℕ → List ℕ
+gateWords c i n = take (3 * n) (drop (gatesStart c + 3 * i) c)
 
 -- the gates of layers 0 to D-1
 unfoldable pub gateLayers : List ℕ → List (List Gate)
 gateLayers c = layersOf (outputExponent c) (exponents c) (drop (gatesStart c) c)
+
+-- how many gates stand before layer i
+abbrev pub gatesBefore : List ℕ → ℕ → ℕ
+gatesBefore c i = gateCount (outputExponent c) (take i (exponents c))
 
 -- the gates of layer i
 unfoldable pub gatesAt : List ℕ → ℕ → List Gate

@@ -7,7 +7,7 @@ use lib.Dec.{eqb, ltb, leb}
 use lib.ListN.{length}
 use Rattle.primes.specs.Prime.{isListed}
 use Rattle.refusal.specs.Order.{need, first}
-use Rattle.circuit.specs.Limits.{maxDepth, maxExponent}
+use Rattle.circuit.specs.Limits.{headerWords, maxDepth, maxExponent}
 use Rattle.circuit.specs.Gate.{Gate, maxKind}
 use Rattle.circuit.specs.Circuit.{primeOf, depth, exponents, gateLayers, wordCount, inputCount}
 
@@ -46,7 +46,7 @@ layersCause (k ∷ ks) (gs ∷ ls) = first (gatesCause (2 ^ k) gs) (layersCause 
 -- LOAD: the refusal's number, 0 where the list is legal
 unfoldable pub loadAnswer : List ℕ → ℕ
 loadAnswer c =
-    need (leb 2 (length c)) 1
+    need (leb headerWords (length c)) 1
     (need (isListed (primeOf c)) 2
     (need (depthGood c) 3
     (need (exponentsGood c) 4

@@ -1,6 +1,6 @@
--- The limits of a circuit.
+-- The limits of a circuit, and what follows from them for the sizes of the largest.
 -- Assumes nothing.
-use Prim.Native.Nat.{ℕ}
+use Prim.Native.Nat.{ℕ, _+_, _-_, _*_, _^_}
 
 -- "D from 1 to 16"
 abbrev pub maxDepth : ℕ
@@ -10,6 +10,29 @@ maxDepth = 16
 abbrev pub maxExponent : ℕ
 maxExponent = 8
 
+-- the words before the exponents: p and D
+abbrev pub headerWords : ℕ
+headerWords = 2
+
+-- the gates of a layer
+abbrev pub maxWidth : ℕ
+maxWidth = 2 ^ maxExponent
+
+-- the gates of a circuit: one in layer 0
+abbrev pub maxGates : ℕ
+maxGates = 1 + (maxDepth - 1) * maxWidth
+
 -- "all 4,097 gate and input words of the largest circuit"
 abbrev pub maxValues : ℕ
-maxValues = 4097
+maxValues = maxGates + maxWidth
+
+-- the words of its list
+abbrev pub maxWords : ℕ
+maxWords = headerWords + maxDepth + 3 * maxGates
+
+-- its coins, and the words of its messages
+abbrev pub maxCoins : ℕ
+maxCoins = maxDepth * (2 * maxExponent + 1)
+
+abbrev pub maxMessageWords : ℕ
+maxMessageWords = maxDepth * (7 * maxExponent + 1)

@@ -1,4 +1,4 @@
--- What legality gives. The proofs are in `proofs/Layers`.
+-- What legality gives. The proofs are in `proofs/Layers` and `proofs/Largest`.
 -- Assumes nothing.
 use Prim.Native.Nat.{ℕ, suc, _^_, _≤_, _<_}
 use mathlib.Core.Path.{_≡_}
@@ -8,7 +8,8 @@ use Rattle.lists.specs.Each.{All}
 use Rattle.primes.specs.Prime.{Prime}
 use Rattle.algebra.specs.Numbers.{words}
 use Rattle.circuit.specs.Gate.{gateValue}
-use Rattle.circuit.specs.Circuit.{primeOf, depth, exponentAt, gatesAt}
+use Rattle.circuit.specs.Limits.{maxValues, maxWords, maxCoins, maxMessageWords}
+use Rattle.circuit.specs.Circuit.{primeOf, depth, exponentAt, gatesAt, wordCount, valueCount, coinCount, messageWords}
 use Rattle.circuit.specs.Legal.{loadAnswer, listsCause}
 use Rattle.circuit.specs.Values.{layers, valuesAt, value}
 
@@ -41,3 +42,13 @@ WiresBelow =
 -- layer 0 is the one gate whose value is the circuit's
 abbrev pub OutputLayer : Type 0
 OutputLayer = (c input : List ℕ) → listsCause c input ≡ 0 → valuesAt c input 0 ≡ value c input ∷ []
+
+-- no legal circuit is larger than the limits say
+pub record InLimits (c : List ℕ) : Type 0 where
+  pub words : wordCount c ≤ maxWords
+  pub values : valueCount c ≤ maxValues
+  pub coins : coinCount c ≤ maxCoins
+  pub messages : messageWords c ≤ maxMessageWords
+
+abbrev pub LegalSizes : Type 0
+LegalSizes = (c : List ℕ) → loadAnswer c ≡ 0 → InLimits c

@@ -14,8 +14,8 @@ use Rattle.circuit.specs.Legal.{listsCause}
 use Rattle.circuit.specs.Values.{value}
 use Rattle.circuit.specs.Limits.{maxValues}
 use Rattle.circuit.proofs.Loading.{legal-lists}
+use Rattle.circuit.proofs.Largest.{in-limits}
 use Rattle.evaluation.specs.Evaluate.{output, refused, evaluated, evaluateCause, evaluateAnswer}
-use Rattle.evaluation.proofs.Evaluating.{total-fits}
 use Rattle.text.specs.Lines.{ascii}
 use Rattle.text.proofs.Lengths.{line-short}
 use Rattle.printing.specs.Limits.{maxLine}
@@ -31,7 +31,7 @@ module _ (c input buffer : List ℕ) (room : maxValues ≤ length buffer) where
       go : (n : ℕ) → listsCause c input ≡ n → first n (need (leb (valueCount c) (length buffer)) 10 0) ≡ n
       go zero e =
           let legal = legal-lists c input e in
-          let few = total-fits c input (legal .circuit) (legal .sized) in
+          let few = in-limits c (legal .circuit) .values in
           ap (λ (b : Bool). need b 10 0) (le-leb (valueCount c) (length buffer) (omega arith))
       go (suc n) e = refl
 

@@ -14,15 +14,16 @@ use Rattle.refusal.specs.Order.{need, first}
 use Rattle.refusal.specs.declared.Cause.{Cause}
 use Rattle.refusal.specs.declared.Cause.the-variants.{BufferShort}
 use Rattle.refusal.proofs.Order.{refused-first, numbered-suc, left-by}
-use Rattle.circuit.specs.Limits.{maxValues}
-use Rattle.circuit.specs.Circuit.{valueCount, gateCount, outputExponent, exponents}
+use Rattle.circuit.specs.Circuit.{depth, gatesBefore, valueCount}
 use Rattle.circuit.specs.Legal.{listsCause}
+use Rattle.circuit.specs.Sized.{LayerOf}
 use Rattle.circuit.specs.Values.{layers, value}
 use Rattle.evaluation.specs.Evaluate.{output, refused, evaluated, evaluateCause, evaluateAnswer, evaluateBuffer, Evaluates}
 use Rattle.evaluation.specs.Layer.{AllValues}
 use Rattle.evaluation.specs.declared.Evaluated.the-variants.{Output, Refused}
-use Rattle.circuit.proofs.Loading.{LegalLists}
-use Rattle.evaluation.proofs.Evaluating.{total-fits, output-first}
+use Rattle.circuit.proofs.Gates.{count-all}
+use Rattle.circuit.proofs.Loading.{legal-lists}
+use Rattle.evaluation.proofs.Evaluating.{output-first}
 
 module _ (c input before : List ℕ) where
   -- a cause, whatever it is, leaves the buffer
@@ -45,20 +46,22 @@ module _ (c input before : List ℕ) where
   left-short e l = by-cause BufferShort (simp (e, lt-leb (valueCount c) (length before) l))
 
   -- the values of all layers over the buffer
-  pub left-values : (total : ℕ) (values : List ℕ) → listsCause c input ≡ 0 → LegalLists c input → total ≡ valueCount c → total ≤ length before
+  pub left-values : (total : ℕ) (values : List ℕ) → listsCause c input ≡ 0 → total ≡ valueCount c → total ≤ length before
       → AllValues c input values → Evaluates c input before (Output (getD values 0 0)) (over (take total values) before)
   unfolding evaluateAnswer evaluateBuffer evaluateCause
-  left-values total values e legal n l v =
+  left-values total values e n l v =
       let fits : leb (valueCount c) (length before) ≡ true = le-leb (valueCount c) (length before) (omega arith) in
-      let first : getD values 0 0 ≡ value c input = output-first c input (legal .circuit) (legal .sized) values (v .holds) in
+      let first : getD values 0 0 ≡ value c input = output-first c input e values (v .holds) in
       record {
         answer = simp (e, fits) (ap output first);
         buffer = ap (λ (t : List ℕ). over t before) (ap (λ (m : ℕ). take m values) n ∙ v .holds) ∙ sym (simp (e, fits));
       }
 
-  pub total-values : (gates : ℕ) → gates ≡ gateCount (outputExponent c) (exponents c) → LegalLists c input → gates + length input ≡ valueCount c
+  -- the gates and the input are all the values
+  pub total-values : (d gates : ℕ) → listsCause c input ≡ 0 → d ≡ depth c → (LayerOf c d → gates ≡ gatesBefore c d) → gates + length input ≡ valueCount c
   unfolding valueCount
-  total-values gates e legal = omega (arith, e, legal .sized)
-
-  pub total-room : LegalLists c input → valueCount c ≤ maxValues
-  total-room legal = total-fits c input (legal .circuit) (legal .sized)
+  total-values d gates e deep counted =
+      let lists = legal-lists c input e in
+      let whole = lists .circuit .sized .headed in
+      let all = counted (record { headed = whole; inside = omega arith }) ∙ ap (gatesBefore c) deep ∙ count-all c whole in
+      omega (arith, all, lists .sized)

@@ -1,28 +1,29 @@
--- Evaluation from the input up: the working array holds layers j to D at their place, and one layer more is filled before them.
+-- Evaluation from the input up: from its place on the working array holds all values, and one layer more is filled before them.
 -- Assumes nothing.
-use Prim.Native.Nat.{ℕ, zero, suc, _+_, _-_, _*_, _^_, _≤_, _<_}
-use mathlib.Core.Path.{_≡_, refl, sym, ap, ap₂, _∙_, subst, subst₂}
-use mathlib.Core.List.{List, [], _∷_, _++_, map, flatten, append-nil}
+use Prim.Native.Nat.{ℕ, suc, _+_, _-_, _^_, _≤_, _<_}
+use mathlib.Core.Path.{_≡_, sym, ap, ap₂, _∙_, subst}
+use mathlib.Core.List.{List, _++_, map, flatten}
 use native.Mathlib.Nat.{le-refl, le-of-eq, sub-zero}
-use native.Mathlib.Numerals.{add-one}
 use native.Mathlib.Omega.{arith}
-use lib.ListN.{length, take, drop, getD, length-append, length-drop, length-map, drop-of-length-le, List·getD-append}
-use lib.Seq.{length-take-le, drop-at, drop-cons, drop-drop, getD-drop, getD-take, take-append-add}
-use native.Mathlib.Decide.{decLe}
-use lib.Pow.{pow-pos}
-use Rattle.refusal.proofs.Order.{first-none}
+use lib.ListN.{length, take, drop, getD, length-append, length-drop, take-append-drop}
+use lib.Seq.{length-take-le, drop-at, drop-drop, getD-take, take-all, take-append-add}
+use Rattle.lists.specs.Each.{All}
 use Rattle.lists.specs.Buffer.{over}
+use Rattle.lists.proofs.Each.{all-weaken}
 use Rattle.lists.proofs.Buffer.{length-over, take-over, rest-lent, rest-back}
 use Rattle.algebra.specs.Numbers.{Numbers, words}
 use Rattle.circuit.specs.Limits.{maxValues}
 use Rattle.circuit.specs.Gate.{Gate, gateValue}
-use Rattle.circuit.specs.Circuit.{primeOf, depth, exponents, exponentAt, outputExponent, gatesStart, gatesOf, layersOf, gateLayers, gateCount, inputExponent, inputCount, valueCount}
-use Rattle.circuit.specs.Values.{layersFrom, layers, valuesAt, value}
+use Rattle.circuit.specs.Circuit.{outputExponent, primeOf, depth, exponentAt, gatesOf, gateWords, gatesBefore, gatesAt, valueCount}
+use Rattle.circuit.specs.Legal.{listsCause}
+use Rattle.circuit.specs.Sized.{LegalCircuit}
+use Rattle.circuit.specs.Values.{layers, valuesAt, value}
+use Rattle.circuit.proofs.Gates.{before-next, count-none, layer-words, layer-gates}
+use Rattle.circuit.proofs.Loading.{legal-lists}
+use Rattle.circuit.proofs.Layers.{layer-by-layer, last-layer, legal-wires}
+use Rattle.circuit.proofs.Values.{values-split, layer-part, layer-room, all-size}
+use Rattle.circuit.proofs.Largest.{in-limits}
 use Rattle.evaluation.specs.Layer.{layerValues, AllValues, Fillable, Placed}
-use Rattle.circuit.specs.Legal.{gatesCause, layersCause}
-use Rattle.circuit.specs.Sized.{Exponents, LegalCircuit}
-use Rattle.circuit.proofs.Legal.{length-gates, gates-part}
-use Rattle.circuit.proofs.Sized.{length-exponents, count-at, count-end, count-tight, layers-at, layers-start, sized-count, exponents-at, width-le, last-small}
 use Rattle.evaluation.proofs.Filling.{values-agree, length-layer}
 
 -- a list put over the rest of the array from `at` on
@@ -49,227 +50,139 @@ module _ (values part ws : List ℕ) (at : ℕ) (size : length values ≡ maxVal
     there = ap (λ (l : List ℕ). take (length ws) (drop at l)) put ∙ ap (take (length ws)) put-rest ∙ take-over ws (drop at values);
   }
 
--- layers j to D stand at their place, which begins at `at`
+-- from the place of layer j on, the array holds all values
 pub record Filled (c input values : List ℕ) (j at : ℕ) : Type 0 where
   pub inside : j ≤ depth c
-  pub place : at + gateCount (exponentAt c j) (drop j (exponents c)) ≡ gateCount (outputExponent c) (exponents c)
+  pub place : at ≡ gatesBefore c j
   pub size : length values ≡ maxValues
-  pub holds : take (valueCount c - at) (drop at values)
-      ≡ flatten (layersFrom (words (primeOf c)) (layersOf (exponentAt c j) (drop j (exponents c)) (drop (gatesStart c + 3 * at) c)) input)
+  pub holds : take (valueCount c - at) (drop at values) ≡ drop at (flatten (layers c input))
 
--- THE WALK UP
--- a layer, then those after it
-layers-more : (N : Numbers ℕ) (gs : List Gate) (ls : List (List Gate)) (input : List ℕ)
-    → flatten (layersFrom N (gs ∷ ls) input) ≡ map (gateValue N (getD (layersFrom N ls input) 0 [])) gs ++ flatten (layersFrom N ls input)
-unfolding layersFrom flatten
-layers-more N gs ls input = refl
+-- the same, of a layer that is named otherwise
+pub from-layer : {c input values : List ℕ} {i j at : ℕ} → i ≡ j → Filled c input values i at → Filled c input values j at
+from-layer {c} {input} {values} {i} {j} {at} same F = subst (λ (l : ℕ). Filled c input values l at) same F
 
-layers-none : (N : Numbers ℕ) (input : List ℕ) → flatten (layersFrom N [] input) ≡ input
-unfolding layersFrom flatten
-layers-none N input = append-nil input
+module _ (c input : List ℕ) (e : listsCause c input ≡ 0) where
+  legal : LegalCircuit c
+  legal = legal-lists c input e .circuit
 
--- the first of the layers, and its size
-layers-first : (N : Numbers ℕ) (ls : List (List Gate)) (input : List ℕ)
-    → flatten (layersFrom N ls input) ≡ getD (layersFrom N ls input) 0 [] ++ flatten (drop 1 (layersFrom N ls input))
-unfolding layersFrom flatten
-layers-first N [] input = refl
-layers-first N (gs ∷ ls) input = refl
+  abbrev all : List ℕ
+  all = flatten (layers c input)
 
-first-size : (N : Numbers ℕ) (k : ℕ) (ks ws input : List ℕ) → length input ≡ 2 ^ getD (k ∷ ks) (length ks) 0
-    → length (getD (layersFrom N (layersOf k ks ws) input) 0 []) ≡ 2 ^ k
-unfolding layersFrom layersOf
-first-size N k [] ws input e = e
-first-size N k (k′ ∷ ks) ws input e =
-    length-map (gatesOf (2 ^ k) ws) (gateValue N (getD (layersFrom N (layersOf k′ ks (drop (3 * 2 ^ k) ws)) input) 0 [])) ∙ length-gates (2 ^ k) ws
+  layer-inside : (j : ℕ) → j ≤ depth c → gatesBefore c j + 2 ^ exponentAt c j ≤ valueCount c
+  layer-inside j l = omega (arith, layer-room c input e j l, all-size c input e)
 
-module _ (c input : List ℕ) (h : LegalCircuit c) (sized : length input ≡ inputCount c) where
-  abbrev ks : List ℕ
-  ks = exponents c
+  -- THE INPUT
+  module _ (at : ℕ) (place : at ≡ gatesBefore c (depth c)) where
+    last : drop at all ≡ input
+    last =
+        let w : ℕ = 2 ^ exponentAt c (depth c) in
+        let size : length (drop at all) ≡ w = length-drop at all ∙ omega (arith, all-size c input e, values-split c legal) in
+        sym (take-all w (drop at all) (omega arith)) ∙ ap (λ (m : ℕ). take w (drop m all)) place ∙ layer-part c input e (depth c) (le-refl (depth c)) ∙ last-layer c input e
 
-  abbrev heads : Exponents c (depth c)
-  heads = h .sized .headed
+    ends : at + length input ≡ valueCount c
+    ends = omega (arith, ap length last, length-drop at all, all-size c input e, layer-inside (depth c) (le-refl (depth c)))
 
-  -- the gates before layer j and those from it on
-  counts-fall : (j : ℕ) → j ≤ depth c → gateCount (exponentAt c j) (drop j (exponents c)) ≤ gateCount (outputExponent c) (exponents c)
-  counts-fall zero l = le-refl (gateCount (outputExponent c) (exponents c))
-  counts-fall (suc j) l =
-      let ih = counts-fall j (omega arith) in
-      let e : gateCount (exponentAt c j) (drop j ks) ≡ 2 ^ exponentAt c j + gateCount (exponentAt c (suc j)) (drop (suc j) ks) =
-      rw (← add-one j) (count-at c (depth c) heads (exponentAt c j) j l) in
-      omega arith
+    pub input-fits : at + length input ≤ maxValues
+    input-fits = omega (arith, ends, in-limits c legal .values)
 
-  pub total-fits : valueCount c ≤ maxValues
-  unfolding valueCount
-  total-fits = omega (arith, count-tight c h, width-le (inputExponent c) (last-small c h))
+    pub filled-start : (values : List ℕ) → Placed input at values → Filled c input values (depth c) at
+    filled-start values placed =
+        let n : valueCount c - at ≡ length input = omega (arith, ends) in
+        record {
+          inside = le-refl (depth c);
+          place = place;
+          size = placed .size;
+          holds = ap (λ (m : ℕ). take m (drop at values)) n ∙ placed .there ∙ sym last;
+        }
 
-  -- the input's own exponent, at the end of any of the walks
-  last-at : (j : ℕ) → j ≤ depth c → getD (exponentAt c j ∷ drop j (exponents c)) (length (drop j (exponents c))) 0 ≡ inputExponent c
-  unfolding inputExponent
-  last-at zero l = refl
-  last-at (suc j) l =
-      let long : length ks ≡ depth c = length-exponents c (depth c) heads in
-      let n : ℕ = length (drop (suc j) ks) in
-      let size : n ≡ length ks - suc j = length-drop (suc j) ks in
-      let place : j + n ≡ length ks - 1 = omega arith in
-      let whole : suc (length ks - 1) ≡ length ks = omega arith in
-      ap (λ (t : List ℕ). getD t n 0) (sym (drop-cons ks j 0 (omega arith))) ∙ getD-drop j ks n 0 ∙ ap (λ (i : ℕ). getD ks i 0) place
-      ∙ ap (λ (i : ℕ). getD (outputExponent c ∷ ks) i 0) whole
-
-  -- the layer that follows has room
-  next-room : (j : ℕ) → j ≤ depth c → 2 ^ exponentAt c j ≤ gateCount (exponentAt c j) (drop j (exponents c)) + inputCount c
-  next-room j l = go (decLe (depth c) j)
-    where
-      go : Dec (depth c ≤ j) → 2 ^ exponentAt c j ≤ gateCount (exponentAt c j) (drop j (exponents c)) + inputCount c
-      go (yes q) =
-          let none : drop j ks ≡ [] = drop-of-length-le ks {i = j} (omega (arith, length-exponents c (depth c) heads)) in
-          let last : exponentAt c j ≡ inputExponent c = subst (λ (t : List ℕ). getD (exponentAt c j ∷ t) (length t) 0 ≡ inputExponent c) none (last-at j l) in
-          omega (arith, ap (λ (k : ℕ). 2 ^ k) last)
-      go (no q) = omega (arith, count-at c (depth c) heads (exponentAt c j) j (omega arith))
-
-  -- the legality of layer j's gates and of those after it, at their place
-  wired-from : (j at : ℕ) → j ≤ depth c → at + gateCount (exponentAt c j) (drop j (exponents c)) ≡ gateCount (outputExponent c) (exponents c)
-      → layersCause (drop j (exponents c)) (layersOf (exponentAt c j) (drop j (exponents c)) (drop (gatesStart c + 3 * at) c)) ≡ 0
-  wired-from zero at l e =
-      let place : gatesStart c ≡ gatesStart c + 3 * at = omega arith in
-      subst (λ (n : ℕ). layersCause ks (layersOf (outputExponent c) ks (drop n c)) ≡ 0) place (sym (layers-start c (depth c) (h .sized)) ∙ h .wired)
-  wired-from (suc j) at l e =
-      let k : ℕ = exponentAt c j in
-      let more : gateCount k (drop j ks) ≡ 2 ^ k + gateCount (exponentAt c (suc j)) (drop (suc j) ks) =
-      rw (← add-one j) (count-at c (depth c) heads k j l) in
-      let fits = counts-fall j (omega arith) in
-      let before : at ≡ (at - 2 ^ k) + 2 ^ k = omega arith in
-      let ih = wired-from j (at - 2 ^ k) (omega arith) (omega arith) in
-      let step = layers-at c (depth c) heads k j (gatesStart c + 3 * (at - 2 ^ k)) (2 ^ k) (2 ^ exponentAt c (j + 1)) l refl refl in
-      let place : gatesStart c + 3 * (at - 2 ^ k) + 3 * 2 ^ k ≡ gatesStart c + 3 * at = omega arith in
-      let from : ℕ = gatesStart c + 3 * (at - 2 ^ k) in
-      let rest = first-none (gatesCause (2 ^ exponentAt c (j + 1)) (gatesOf (2 ^ k) (drop from c)))
-      (layersCause (drop (j + 1) ks) (layersOf (exponentAt c (j + 1)) (drop (j + 1) ks) (drop (from + 3 * 2 ^ k) c))) (sym step ∙ ih) .1 in
-      subst₂ (λ (m n : ℕ). layersCause (drop m ks) (layersOf (exponentAt c m) (drop m ks) (drop n c)) ≡ 0) (add-one j) place rest
-
-  abbrev N : Numbers ℕ
-  N = words (primeOf c)
-
-  -- the input alone
-  filled-input : (values : List ℕ) (at : ℕ) → at ≡ gateCount (outputExponent c) (exponents c) → Placed input at values → Filled c input values (depth c) at
-  unfolding valueCount layersOf
-  filled-input values at e placed =
-      let none : drop (depth c) ks ≡ [] = drop-of-length-le ks {i = depth c} (omega (arith, length-exponents c (depth c) heads)) in
-      let only : layersOf (exponentAt c (depth c)) (drop (depth c) ks) (drop (gatesStart c + 3 * at) c) ≡ [] =
-      ap (λ (t : List ℕ). layersOf (exponentAt c (depth c)) t (drop (gatesStart c + 3 * at) c)) none in
-      let n : valueCount c - at ≡ length input = omega arith in
-      record {
-        inside = le-refl (depth c);
-        place = omega (arith, e, count-end c (depth c) heads (exponentAt c (depth c)) (depth c) (le-refl (depth c)));
-        size = placed .size;
-        holds = ap (λ (m : ℕ). take m (drop at values)) n ∙ placed .there
-            ∙ sym (ap (λ (ls : List (List Gate)). flatten (layersFrom N ls input)) only ∙ layers-none N input);
-      }
-
-  -- ONE LAYER MORE, where layers j + 1 to D stand at `from`
-  module _ (j from count next : ℕ) (values : List ℕ) (inside : j < depth c) (F : Filled c input values (j + 1) from)
-      (counted : count ≡ 2 ^ exponentAt c j) (following : next ≡ 2 ^ exponentAt c (j + 1)) where
+  -- ONE LAYER MORE, where the array is filled from layer j + 1 on
+  module _ (j from count : ℕ) (values : List ℕ) (inside : j < depth c) (F : Filled c input values (suc j) from) (wide : count ≡ 2 ^ exponentAt c j) where
     abbrev at : ℕ
     at = from - count
 
-    abbrev gates : List ℕ
-    gates = drop (gatesStart c + 3 * at) c
+    abbrev N : Numbers ℕ
+    N = words (primeOf c)
 
-    more : gateCount (exponentAt c j) (drop j (exponents c)) ≡ count + gateCount (exponentAt c (j + 1)) (drop (j + 1) (exponents c))
-    more = count-at c (depth c) heads (exponentAt c j) j inside ∙ ap (λ (n : ℕ). n + gateCount (exponentAt c (j + 1)) (drop (j + 1) (exponents c))) (sym counted)
+    next : from ≡ gatesBefore c j + count
+    next = F .place ∙ before-next c (legal .sized .headed) j inside ∙ ap (λ (n : ℕ). gatesBefore c j + n) (sym wide)
 
-    layer-fits : count ≤ from
-    layer-fits = omega (arith, more, F .place, counts-fall j (omega arith))
+    here : at ≡ gatesBefore c j
+    here = omega (arith, next)
 
-    place : at + gateCount (exponentAt c j) (drop j (exponents c)) ≡ gateCount (outputExponent c) (exponents c)
-    place = omega (arith, more, F .place, layer-fits)
+    room : from + 2 ^ exponentAt c (suc j) ≤ valueCount c
+    room = omega (arith, F .place, layer-inside (suc j) inside)
 
-    -- the gates are inside the list
-    gates-fit : gatesStart c + 3 * at + 3 * count ≤ length c
-    gates-fit = omega (arith, place, more, sized-count c (depth c) (h .sized))
+    pub turn-sizes : (count ≤ from) × (from ≤ maxValues)
+    turn-sizes = (omega (arith, next), omega (arith, room, in-limits c legal .values))
 
-    layers-split : layersOf (exponentAt c j) (drop j (exponents c)) gates
-        ≡ gatesOf count gates ∷ layersOf (exponentAt c (j + 1)) (drop (j + 1) (exponents c)) (drop (gatesStart c + 3 * from) c)
-    unfolding layersOf
-    layers-split =
-        let on : gatesStart c + 3 * at + 3 * count ≡ gatesStart c + 3 * from = omega (arith, layer-fits) in
-        ap (λ (t : List ℕ). layersOf (exponentAt c j) t gates) (exponents-at c (depth c) heads j inside)
-        ∙ ap (λ (n : ℕ). gatesOf n gates ∷ layersOf (exponentAt c (j + 1)) (drop (j + 1) ks) (drop (3 * n) gates)) (sym counted)
-        ∙ ap (λ (t : List ℕ). gatesOf count gates ∷ layersOf (exponentAt c (j + 1)) (drop (j + 1) ks) t)
-        (drop-drop (3 * count) (gatesStart c + 3 * at) c ∙ ap (λ (n : ℕ). drop n c) on)
+    -- its gates, and what their wires name
+    gates-are : gatesOf count (gateWords c at count) ≡ gatesAt c j
+    gates-are = layer-gates c (legal .sized) j at count inside here wide
 
-    legal : gatesCause next (gatesOf count gates) ≡ 0
-    legal =
-        let step = layers-at c (depth c) heads (exponentAt c j) j (gatesStart c + 3 * at) count next inside counted following in
-        first-none (gatesCause next (gatesOf count gates))
-        (layersCause (drop (j + 1) ks) (layersOf (exponentAt c (j + 1)) (drop (j + 1) ks) (drop (gatesStart c + 3 * at + 3 * count) c)))
-        (sym step ∙ wired-from j at (omega arith) place) .0
+    wires : All (λ g. (g .left < 2 ^ exponentAt c (suc j)) × (g .right < 2 ^ exponentAt c (suc j))) (gatesAt c j)
+    wires = legal-wires c legal j inside
 
-    room : at + (count + next) ≤ maxValues
-    unfolding valueCount
-    room = omega (arith, following, layer-fits, F .place, next-room (j + 1) (omega arith), total-fits)
-
-    part : take (gatesStart c + 3 * at + 3 * count - (gatesStart c + 3 * at)) gates ≡ take (3 * count) gates
-    part = let n : gatesStart c + 3 * at + 3 * count - (gatesStart c + 3 * at) ≡ 3 * count = omega arith in ap (λ (m : ℕ). take m gates) n
-
-    -- what the filling asks, with gates and values as they are lent
-    fillable : Fillable (take (gatesStart c + 3 * at + 3 * count - (gatesStart c + 3 * at)) gates) count next (take (maxValues - at) (drop at values))
-    fillable = record {
-      words = subst (λ (l : List ℕ). 3 * count ≤ length l) (sym part)
-          (le-of-eq (sym (length-take-le (3 * count) gates (simp length-drop (omega (arith, gates-fit))))));
-      legal = ap (λ (l : List ℕ). gatesCause next (gatesOf count l)) part ∙ ap (gatesCause next) (gates-part count (3 * count) gates (le-refl (3 * count))) ∙ legal;
-      room = subst (λ (l : List ℕ). count + next ≤ length l) (sym (rest-lent values at maxValues (F .size)))
-          (simp length-drop (omega (arith, room, F .size)));
-    }
-
-    abbrev below : List (List Gate)
-    below = layersOf (exponentAt c (j + 1)) (drop (j + 1) (exponents c)) (drop (gatesStart c + 3 * from) c)
+    -- what the filling asks, with the values as they are lent
+    pub turn-fillable : Fillable (gateWords c at count) count (take (maxValues - at) (drop at values))
+    turn-fillable =
+        let most = in-limits c legal .values in
+        let ends = room in
+        let starts = next in
+        let size : length (take (maxValues - at) (drop at values)) ≡ maxValues - at =
+        ap length (rest-lent values at maxValues (F .size)) ∙ length-drop at values ∙ ap (λ (n : ℕ). n - at) (F .size) in
+        record {
+          words = le-of-eq (sym (layer-words c (legal .sized) j at count inside here wide));
+          room = omega arith;
+          wired =
+              rw (gates-are, size)
+              (all-weaken (gatesAt c j) (λ g w. (let l = w .0 in omega arith, let r = w .1 in omega arith)) wires);
+        }
 
     -- what a gate sees of the array is the next layer
-    seen : (i : ℕ) → i < next → getD (drop from values) i 0 ≡ getD (getD (layersFrom N below input) 0 []) i 0
-    unfolding valueCount
+    seen : (i : ℕ) → i < 2 ^ exponentAt c (suc j) → getD (drop from values) i 0 ≡ getD (valuesAt c input (suc j)) i 0
     seen i l =
-        let first : List ℕ = getD (layersFrom N below input) 0 [] in
-        let rest : List ℕ = flatten (drop 1 (layersFrom N below input)) in
-        let size : length first ≡ next =
-        first-size N (exponentAt c (j + 1)) (drop (j + 1) ks) (drop (gatesStart c + 3 * from) c) input
-        (sized ∙ ap (λ (k : ℕ). 2 ^ k) (sym (last-at (j + 1) (omega arith))))
-        ∙ sym following in
-        let fits = next-room (j + 1) (omega arith) in
-        sym (getD-take (valueCount c - from) (drop from values) i 0 (omega (arith, F .place, following, fits)))
-        ∙ ap (λ (t : List ℕ). getD t i 0) (F .holds ∙ layers-first N below input)
-        ∙ List·getD-append first rest 0 i (omega arith)
+        let w : ℕ = 2 ^ exponentAt c (suc j) in
+        sym (getD-take (valueCount c - from) (drop from values) i 0 (let ends = room in omega arith)) ∙ ap (λ (t : List ℕ). getD t i 0) (F .holds)
+        ∙ sym (getD-take w (drop from all) i 0 l)
+        ∙ ap (λ (t : List ℕ). getD t i 0) (ap (λ (m : ℕ). take w (drop m all)) (F .place) ∙ layer-part c input e (suc j) inside)
 
     abbrev layer : List ℕ
-    layer = layerValues N count (take (gatesStart c + 3 * at + 3 * count - (gatesStart c + 3 * at)) gates) (drop at values)
+    layer = layerValues N count (gateWords c at count) (drop at values)
 
-    behind : drop count (drop at values) ≡ drop from values
-    behind = let n : at + count ≡ from = omega (arith, layer-fits) in drop-drop count at values ∙ ap (λ (m : ℕ). drop m values) n
+    behind : (l : List ℕ) → drop count (drop at l) ≡ drop from l
+    behind l = let n : at + count ≡ from = omega (arith, next) in drop-drop count at l ∙ ap (λ (m : ℕ). drop m l) n
 
-    layer-is : layer ≡ map (gateValue N (getD (layersFrom N below input) 0 [])) (gatesOf count gates)
+    layer-is : layer ≡ valuesAt c input j
     unfolding layerValues
     layer-is =
-        ap₂ (λ (v : List ℕ) (gs : List Gate). map (gateValue N v) gs) behind
-        (ap (gatesOf count) part ∙ gates-part count (3 * count) gates (le-refl (3 * count)))
-        ∙ values-agree (primeOf c) next (gatesOf count gates) (drop from values) (getD (layersFrom N below input) 0 []) legal seen
+        ap₂ (λ (v : List ℕ) (gs : List Gate). map (gateValue N v) gs) (behind values) gates-are
+        ∙ values-agree (primeOf c) (2 ^ exponentAt c (suc j)) (gatesAt c j) (drop from values) (valuesAt c input (suc j)) wires seen
+        ∙ sym (layer-by-layer c input e j inside)
 
-    -- the array with the layer before those that stood, as the borrow checker gives it
-    filled-layer : (q : ℕ) (rest : List ℕ) → q ≡ primeOf c
-        → rest ≡ over (layerValues (words q) count (take (gatesStart c + 3 * at + 3 * count - (gatesStart c + 3 * at)) gates) (take (maxValues - at) (drop at values)))
-        (take (maxValues - at) (drop at values))
+    -- the layer, then those that stood
+    split : valuesAt c input j ++ drop from all ≡ drop at all
+    split =
+        ap₂ (λ (a b : List ℕ). a ++ b)
+        (sym (ap₂ (λ (n m : ℕ). take n (drop m all)) wide here ∙ layer-part c input e j (omega arith))) (sym (behind all))
+        ∙ take-append-drop count (drop at all)
+
+    -- the array with the layer, as the borrow checker gives it
+    pub turn-filled : (q : ℕ) (rest : List ℕ) → q ≡ primeOf c
+        → rest ≡ over (layerValues (words q) count (gateWords c at count) (take (maxValues - at) (drop at values))) (take (maxValues - at) (drop at values))
         → Filled c input (take at values ++ (rest ++ drop (maxValues - at) (drop at values))) j at
-    unfolding valueCount
-    filled-layer q rest eq e =
-        let n : length layer ≡ count = length-layer N count (take (gatesStart c + 3 * at + 3 * count - (gatesStart c + 3 * at)) gates) (drop at values) in
-        let fits : at + length layer ≤ maxValues = omega (arith, room) in
+    turn-filled q rest eq er =
+        let n : length layer ≡ count = length-layer N count (gateWords c at count) (drop at values) in
+        let starts = next in
+        let fits : at + length layer ≤ maxValues = let most = turn-sizes in omega arith in
         let now : rest ≡ over layer (take (maxValues - at) (drop at values)) =
-        e ∙ ap₂ (λ (p : ℕ) (v : List ℕ). over (layerValues (words p) count (take (gatesStart c + 3 * at + 3 * count - (gatesStart c + 3 * at)) gates) v)
-        (take (maxValues - at) (drop at values))) eq (rest-lent values at maxValues (F .size)) in
+        er ∙ ap₂ (λ (p : ℕ) (v : List ℕ). over (layerValues (words p) count (gateWords c at count) v) (take (maxValues - at) (drop at values)))
+        eq (rest-lent values at maxValues (F .size)) in
         let whole = put values rest layer at (F .size) fits now in
-        let long : valueCount c - at ≡ length layer + (valueCount c - from) = omega (arith, layer-fits, F .place) in
-        let tail : drop (length layer) (drop at values) ≡ drop from values = ap (λ (m : ℕ). drop m (drop at values)) n ∙ behind in
+        let long : valueCount c - at ≡ length layer + (valueCount c - from) = let ends = room in omega arith in
+        let tail : drop (length layer) (drop at values) ≡ drop from values = ap (λ (m : ℕ). drop m (drop at values)) n ∙ behind values in
         record {
           inside = omega arith;
-          place = place;
+          place = here;
           size = ap length whole ∙ put-size values rest layer at (F .size) fits now;
           holds =
               ap (λ (l : List ℕ). take (valueCount c - at) (drop at l)) whole
@@ -277,83 +190,24 @@ module _ (c input : List ℕ) (h : LegalCircuit c) (sized : length input ≡ inp
               ∙ ap (λ (m : ℕ). take m (layer ++ drop (length layer) (drop at values))) long
               ∙ take-append-add layer (drop (length layer) (drop at values)) (valueCount c - from)
               ∙ ap₂ (λ (a b : List ℕ). a ++ take (valueCount c - from) b) layer-is tail
-              ∙ ap (λ (l : List ℕ). map (gateValue N (getD (layersFrom N below input) 0 [])) (gatesOf count gates) ++ l) (F .holds)
-              ∙ sym (ap (λ (ls : List (List Gate)). flatten (layersFrom N ls input)) layers-split ∙ layers-more N (gatesOf count gates) below input);
+              ∙ ap (λ (l : List ℕ). valuesAt c input j ++ l) (F .holds) ∙ split;
         }
 
-  -- the same by the loop's count: turn i fills layer D - 1 - i
-  module _ (i from count next : ℕ) (values : List ℕ) (inside : i < depth c) (F : Filled c input values (depth c - i) from)
-      (counted : count ≡ 2 ^ exponentAt c (depth c - 1 - i)) (following : next ≡ 2 ^ exponentAt c (depth c - i)) where
-    back : depth c - i ≡ depth c - 1 - i + 1
-    back = omega arith
-
-    F′ : Filled c input values (depth c - 1 - i + 1) from
-    F′ = subst (λ (j : ℕ). Filled c input values j from) back F
-
-    following′ : next ≡ 2 ^ exponentAt c (depth c - 1 - i + 1)
-    following′ = following ∙ ap (λ (j : ℕ). 2 ^ exponentAt c j) back
-
-    pub turn-sizes : (count ≤ from) × (gatesStart c + 3 * (from - count) + 3 * count ≤ length c) × (from ≤ maxValues)
-    unfolding valueCount
-    turn-sizes = (
-      layer-fits (depth c - 1 - i) from count next values (omega arith) F′ counted following′,
-      gates-fit (depth c - 1 - i) from count next values (omega arith) F′ counted following′,
-      omega (arith, F .place, total-fits),
-    )
-
-    pub turn-width : count ≡ 2 ^ exponentAt c (depth c - (i + 1))
-    turn-width = let on : depth c - 1 - i ≡ depth c - (i + 1) = omega arith in counted ∙ ap (λ (j : ℕ). 2 ^ exponentAt c j) on
-
-    pub turn-fillable : Fillable (take (gatesStart c + 3 * (from - count) + 3 * count - (gatesStart c + 3 * (from - count))) (drop (gatesStart c + 3 * (from - count)) c)) count next
-        (take (maxValues - (from - count)) (drop (from - count) values))
-    turn-fillable = fillable (depth c - 1 - i) from count next values (omega arith) F′ counted following′
-
-    pub turn-filled : (q : ℕ) (rest : List ℕ) → q ≡ primeOf c
-        → rest ≡ over (layerValues (words q) count (take (gatesStart c + 3 * (from - count) + 3 * count - (gatesStart c + 3 * (from - count))) (drop (gatesStart c + 3 * (from - count)) c))
-        (take (maxValues - (from - count)) (drop (from - count) values)))
-        (take (maxValues - (from - count)) (drop (from - count) values))
-        → Filled c input (take (from - count) values ++ (rest ++ drop (maxValues - (from - count)) (drop (from - count) values))) (depth c - (i + 1)) (from - count)
-    turn-filled q rest eq e =
-        let on : depth c - 1 - i ≡ depth c - (i + 1) = omega arith in
-        subst (λ (j : ℕ). Filled c input (take (from - count) values ++ (rest ++ drop (maxValues - (from - count)) (drop (from - count) values))) j (from - count)) on
-        (filled-layer (depth c - 1 - i) from count next values (omega arith) F′ counted following′ q rest eq e)
-
-  -- all layers stand
-  pub filled-all : (values : List ℕ) (j at : ℕ) → j ≡ 0 → Filled c input values j at → AllValues c input values
-  unfolding layers gateLayers
-  filled-all values j at top G =
-      let F = subst (λ (i : ℕ). Filled c input values i at) top G in
-      let z : at ≡ 0 = omega (arith, F .place) in
-      let start : gatesStart c + 3 * 0 ≡ gatesStart c = omega arith in
-      let holds = subst (λ (m : ℕ). take (valueCount c - m) (drop m values)
-      ≡ flatten (layersFrom N (layersOf (outputExponent c) ks (drop (gatesStart c + 3 * m) c)) input)) z (F .holds) in
+  -- ALL LAYERS
+  pub filled-all : (values : List ℕ) (at : ℕ) → Filled c input values 0 at → AllValues c input values
+  filled-all values at F =
+      let top : at ≡ 0 = F .place ∙ sym (count-none c) in
+      let whole : valueCount c - 0 ≡ valueCount c = sub-zero (valueCount c) in
       record {
         size = F .size;
-        holds = ap (λ (m : ℕ). take m values) (sym (sub-zero (valueCount c))) ∙ holds
-            ∙ ap (λ (m : ℕ). flatten (layersFrom N (layersOf (outputExponent c) ks (drop m c)) input)) start;
+        holds = sym (ap₂ (λ (n m : ℕ). take n (drop m values)) (ap (λ (m : ℕ). valueCount c - m) top ∙ whole) top) ∙ F .holds ∙ ap (λ (m : ℕ). drop m all) top;
       }
 
-  -- before the first turn
-  pub input-fits : (at : ℕ) → at ≡ gateCount (outputExponent c) (exponents c) → at + length input ≤ maxValues
-  unfolding valueCount
-  input-fits at e = omega (arith, e, sized, total-fits)
-
-  pub filled-start : (values : List ℕ) (at : ℕ) → at ≡ gateCount (outputExponent c) (exponents c) → Placed input at values → Filled c input values (depth c - 0) at
-  filled-start values at e placed = subst (λ (j : ℕ). Filled c input values j at) (sym (sub-zero (depth c))) (filled-input values at e placed)
-
-  pub input-width : length input ≡ 2 ^ exponentAt c (depth c - 0)
-  unfolding inputExponent
-  input-width =
-      sized ∙ ap (λ (j : ℕ). 2 ^ exponentAt c j) (length-exponents c (depth c) heads ∙ sym (sub-zero (depth c)))
-
   -- the array's first word is the output
-  pub output-first : (values : List ℕ) → take (valueCount c) values ≡ flatten (layers c input) → getD values 0 0 ≡ value c input
-  unfolding layers gateLayers valuesAt value valueCount outputExponent
+  pub output-first : (values : List ℕ) → take (valueCount c) values ≡ all → getD values 0 0 ≡ value c input
+  unfolding value outputExponent
   output-first values v =
-      let ls : List (List Gate) = layersOf (outputExponent c) ks (drop (gatesStart c) c) in
-      let first : List ℕ = getD (layersFrom N ls input) 0 [] in
-      let size : length first ≡ 1 =
-      first-size N (outputExponent c) ks (drop (gatesStart c) c) input (sized ∙ ap (λ (k : ℕ). 2 ^ k) (sym (last-at 0 (omega arith)))) in
-      sym (getD-take (valueCount c) values 0 0 (omega (arith, pow-pos (inputExponent c))))
-      ∙ ap (λ (t : List ℕ). getD t 0 0) (v ∙ layers-first N ls input)
-      ∙ List·getD-append first (flatten (drop 1 (layersFrom N ls input))) 0 0 (omega arith)
+      let some : gatesBefore c 0 + 1 ≤ valueCount c = layer-inside 0 (omega arith) in
+      sym (getD-take (valueCount c) values 0 0 (omega arith)) ∙ ap (λ (t : List ℕ). getD t 0 0) v
+      ∙ sym (getD-take 1 all 0 0 (omega arith))
+      ∙ ap (λ (m : ℕ). getD (take 1 (drop m all)) 0 0) (count-none c) ∙ ap (λ (t : List ℕ). getD t 0 0) (layer-part c input e 0 (omega arith))

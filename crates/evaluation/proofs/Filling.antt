@@ -7,15 +7,15 @@ use native.Mathlib.Nat.{le-of-suc-le-suc}
 use native.Mathlib.Omega.{arith}
 use lib.ListN.{length, getD, set, take, drop, length-map}
 use lib.Seq.{getD-drop, length-take-le}
+use Rattle.lists.specs.Each.{All}
 use Rattle.lists.specs.Buffer.{over}
 use Rattle.lists.proofs.Buffer.{over-next, getD-over-after}
+use Rattle.lists.proofs.Each.{all-at}
 use Rattle.lists.proofs.Map.{getD-map-lt}
-use Rattle.refusal.proofs.Order.{first-none}
 use Rattle.algebra.specs.Numbers.{Numbers, words}
-use Rattle.circuit.proofs.Legal.{gate-wires, gates-wires, length-gates}
+use Rattle.circuit.proofs.Legal.{length-gates}
 use Rattle.circuit.specs.Gate.{Gate, gate, operate, gateValue}
 use Rattle.circuit.specs.Circuit.{gatesOf}
-use Rattle.circuit.specs.Legal.{gateCause, gatesCause}
 use Rattle.evaluation.specs.Layer.{layerValues}
 
 -- gate i is words 3 i to 3 i + 2
@@ -40,13 +40,13 @@ gate-words (suc n) (suc i) ws e h =
         (shift (3 * i) ∙ ap (λ (k : ℕ). getD ws k 0) e0, shift (3 * i + 1) ∙ ap (λ (k : ℕ). getD ws k 0) e1, shift (3 * i + 2) ∙ ap (λ (k : ℕ). getD ws k 0) e2)
 
 -- in terms of words
-pub wires-below : (next n i : ℕ) (ws : List ℕ) → gatesCause next (gatesOf n ws) ≡ 0 → i < n
-    → (getD ws (3 * i + 1) 0 < next) × (getD ws (3 * i + 2) 0 < next)
-wires-below next n i ws e h =
+pub wires-in : (m n count i : ℕ) (ws : List ℕ) → All (λ g. (m + g .left < n) × (m + g .right < n)) (gatesOf count ws) → i < count
+    → (m + getD ws (3 * i + 1) 0 < n) × (m + getD ws (3 * i + 2) 0 < n)
+wires-in m n count i ws all h =
     let none : Gate = gate 0 0 0 in
-    let w = gates-wires next (gatesOf n ws) i none e (omega (arith, length-gates n ws)) in
-    let g = gate-words n i ws none h in
-    (rw (ap (λ (x : Gate). x .left) g) at (w .left), rw (ap (λ (x : Gate). x .right) g) at (w .right))
+    let w = all-at (λ g. (m + g .left < n) × (m + g .right < n)) (gatesOf count ws) i none (omega (arith, length-gates count ws)) all in
+    let g = gate-words count i ws none h in
+    (rw (ap (λ (x : Gate). x .left) g) at (w .0), rw (ap (λ (x : Gate). x .right) g) at (w .1))
 
 module _ (N : Numbers ℕ) (count : ℕ) (gates values : List ℕ) where
   pub length-layer : length (layerValues N count gates values) ≡ count
@@ -87,13 +87,11 @@ fill-step p count gates before values i r h fits e v =
     ap₂ (λ (l : List ℕ) (x : ℕ). set l i x) e same ∙ over-next layer before i 0 (omega arith) (omega arith)
 
 -- gates whose wires are below `next` see no more of the values
-pub values-agree : (p next : ℕ) (gs : List Gate) (v w : List ℕ) → gatesCause next gs ≡ 0
+pub values-agree : (p next : ℕ) (gs : List Gate) (v w : List ℕ) → All (λ g. (g .left < next) × (g .right < next)) gs
     → ((i : ℕ) → i < next → getD v i 0 ≡ getD w i 0) → map (gateValue (words p) v) gs ≡ map (gateValue (words p) w) gs
-unfolding gatesCause gateValue
-values-agree p next [] v w e same = refl
-values-agree p next (g ∷ gs) v w e same =
-    let parts = first-none (gateCause next g) (gatesCause next gs) e in
-    let wires = gate-wires next g (parts .0) in
+unfolding gateValue
+values-agree p next [] v w h same = refl
+values-agree p next (g ∷ gs) v w h same =
     ap₂ (λ (x : ℕ) (l : List ℕ). x ∷ l)
-    (ap₂ (operate (words p) (g .kind)) (same (g .left) (wires .left)) (same (g .right) (wires .right)))
-    (values-agree p next gs v w (parts .1) same)
+    (ap₂ (operate (words p) (g .kind)) (same (g .left) (h .0 .0)) (same (g .right) (h .0 .1)))
+    (values-agree p next gs v w (h .1) same)

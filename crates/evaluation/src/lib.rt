@@ -3,14 +3,13 @@ use field::Field;
 use refusal::Cause;
 use refusal::Checked;
 ghost use mathlib.Core.Path.{_≡_};
-ghost use Prim.Native.Nat.{_+_, _^_, _≤_};
+ghost use Prim.Native.Nat.{_+_, _≤_};
 ghost use lib.ListN.{length};
 ghost use Rattle.lists.specs.Buffer.{over};
 ghost use Rattle.field.specs.Modulus.{numbers};
 ghost use Rattle.circuit.specs.Limits.{maxValues};
 ghost use Rattle.circuit.specs.Gate.{operate};
-ghost use Rattle.circuit.specs.Circuit.{exponentAt, inputCount};
-ghost use Rattle.circuit.specs.Sized.{LayerOf, LegalCircuit};
+ghost use Rattle.circuit.specs.Legal.{listsCause};
 ghost use Rattle.evaluation.specs.Layer.{layerValues, AllValues, Fillable, Placed};
 ghost use Rattle.evaluation.specs.Evaluate.{Evaluates};
 
@@ -28,9 +27,9 @@ pub fn gate_value(f: Field, kind: u32, x: u32, y: u32) -> u32
     }
 }
 
-// Writes the values of `gates` over the front of `values`, behind which stand the next layer's, `next` of them.
-fn fill_layer(f: Field, gates: &[u32], count: usize, next: usize, values: &mut [u32])
-    requires { ⌜ Fillable (now gates) count next (now values) ⌝ }
+// Writes the values of `count` gates over the front of `values`, behind which stand the next layer's.
+fn fill_layer(f: Field, gates: &[u32], count: usize, values: &mut [u32])
+    requires { ⌜ Fillable (now gates) count (now values) ⌝ }
     ensures { λ _. ⌜ now (values .exit) ≡ over (layerValues (numbers f) count (now (gates .entry)) (now (values .entry))) (now (values .entry)) ⌝ }
 {
     for i in 0..count {
@@ -39,17 +38,6 @@ fn fill_layer(f: Field, gates: &[u32], count: usize, next: usize, values: &mut [
         let y = values[count + gates[g + 2] as usize];
         values[i] = gate_value(f, gates[g], x, y);
     }
-}
-
-// The number of gates of a layer.
-fn layer_width(circuit: &[u32], layer: usize) -> usize
-    requires { ⌜ LayerOf (now circuit) layer ⌝ }
-    ensures { λ r. ⌜ r ≡ 2 ^ exponentAt (now (circuit .entry)) layer ⌝ }
-{
-    if layer == 0 {
-        return 1;
-    }
-    legality::width(circuit[1 + layer])
 }
 
 // A working array with the input in its place.
@@ -64,22 +52,22 @@ fn place_input(input: &[u32], at: usize) -> [u32; MAX_VALUES]
 
 // The values of all layers, the output's first, in a working array that is filled from the input up.
 fn all_values(circuit: &[u32], input: &[u32]) -> [u32; MAX_VALUES]
-    requires { ⌜ LegalCircuit (now circuit) × (length (now input) ≡ inputCount (now circuit)) ⌝ }
+    requires { ⌜ listsCause (now circuit) (now input) ≡ 0 ⌝ }
     ensures { λ r. ⌜ AllValues (now (circuit .entry)) (now (input .entry)) r ⌝ }
 {
-    let f = Field::of(circuit[0]);
-    let depth = circuit[1] as usize;
-    let start = 2 + depth;
-    let mut at = legality::gate_count(circuit);
+    let f = Field::of(layout::prime(circuit));
+    let depth = layout::depth(circuit);
+    let mut at = layout::gates_before(circuit, depth);
     let mut values = place_input(input, at);
-    let mut next = input.len();
     for i in 0..depth {
-        let count = layer_width(circuit, depth - 1 - i);
+        let count = layout::width(layout::exponent(circuit, depth - 1 - i));
         at -= count;
-        let from = start + 3 * at;
-        let to = from + 3 * count;
-        fill_layer(f, &circuit[from..to], count, next, &mut values[at..]);
-        next = count;
+        fill_layer(
+            f,
+            layout::gates(circuit, at, count),
+            count,
+            &mut values[at..],
+        );
     }
     values
 }
@@ -98,7 +86,7 @@ pub fn evaluate(circuit: &[u32], input: &[u32], buffer: &mut [u32]) -> Evaluated
     if let Checked::Refused(cause) = checked {
         return Evaluated::Refused(cause);
     }
-    let total = legality::gate_count(circuit) + input.len();
+    let total = layout::gates_before(circuit, layout::depth(circuit)) + input.len();
     if buffer.len() < total {
         return Evaluated::Refused(Cause::BufferShort);
     }

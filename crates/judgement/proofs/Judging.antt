@@ -13,9 +13,9 @@ use Rattle.protocol.specs.Rounds.{Place, place, isLine, AtRound}
 use Rattle.protocol.specs.Judge.{fixed, pointAt, lineClaim, messageAt, messageLength, compared, judge}
 
 -- a round that is its layer's line
-pub at-line : (c : List ℕ) (layer round : ℕ) (past : List ℕ) → AtRound c (place layer round) (length past) → isLine c (place layer round) ≡ true
-    → AtRound c (place layer (2 * exponentAt c layer)) (length past)
-at-line c layer round past h e = subst (λ (j : ℕ). AtRound c (place layer j) (length past)) (eqb-true round (2 * exponentAt c layer) e) h
+pub at-line : (c : List ℕ) (layer round n : ℕ) → AtRound c (place layer round) n → isLine c (place layer round) ≡ true
+    → AtRound c (place layer (2 * exponentAt c layer)) n
+at-line c layer round n h e = subst (λ (j : ℕ). AtRound c (place layer j) n) (eqb-true round (2 * exponentAt c layer) e) h
 
 module _ (c : List ℕ) (r : Place) where
   module _ (past m : List ℕ) (x y v : ℕ) (ex : x ≡ messageAt c m 0) (ey : y ≡ messageAt c m 1) where

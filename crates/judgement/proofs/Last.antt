@@ -15,14 +15,13 @@ use Rattle.circuit.specs.Circuit.{primeOf, depth, outputExponent, exponents, ex
 use Rattle.circuit.specs.Sized.{LayerOf, LegalCircuit}
 use Rattle.circuit.proofs.Layers.{all-below}
 use Rattle.circuit.proofs.Loading.{legal-lists}
-use Rattle.circuit.proofs.Sized.{deep}
+use Rattle.circuit.proofs.Sized.{deep, exponent-small, layer-of}
 use Rattle.protocol.specs.Judge.{pointAt, inputAgrees}
 use Rattle.protocol.specs.Check.{Counted}
 use Rattle.protocol.proofs.Truth.{positive}
 use Rattle.standing.specs.Standing.{AtLayer, Row}
-use Rattle.standing.proofs.Gates.{exponent-small}
 use Rattle.standing.proofs.Points.{point-length}
-use Rattle.standing.proofs.Coins.{layer-of, so-far, sum-start, sum-all, sum-coins}
+use Rattle.standing.proofs.Coins.{so-far, sum-start, sum-all, sum-coins}
 
 module _ (c input cs : List ℕ) (h : Counted c input cs) where
   pub legal : LegalCircuit c

@@ -1,6 +1,6 @@
 -- What a line is compared by, as the check computes it from what stands at the round.
 -- Assumes nothing.
-use Prim.Native.Nat.{ℕ, _-_, _*_}
+use Prim.Native.Nat.{ℕ, _*_}
 use mathlib.Core.Path.{_≡_, sym, ap, ap₂, _∙_, subst}
 use mathlib.Core.List.{List}
 use native.Mathlib.Omega.{arith}
@@ -9,20 +9,21 @@ use lib.Seq.{length-take-le}
 use Rattle.algebra.specs.Numbers.{words}
 use Rattle.circuit.specs.Gate.{Gate}
 use Rattle.circuit.specs.Circuit.{primeOf, exponentAt}
+use Rattle.layout.specs.Gates.{GatesAbove}
 use Rattle.sumcheck.specs.Summand.{combined}
 use Rattle.summand.specs.Gates.{gatesIn}
 use Rattle.protocol.specs.Rounds.{place, AtRound}
 use Rattle.protocol.specs.Judge.{fixed, pointAt, gatesAbove, lineClaim}
 use Rattle.standing.specs.Standing.{Stands}
 use Rattle.standing.specs.declared.Stand.{Stand}
-use Rattle.standing.proofs.Rounds.{own-coins, above-point}
+use Rattle.standing.proofs.Rounds.{own-coins, gates-above, above-point}
 
 pub line-claim : (c : List ℕ) (layer : ℕ) (past : List ℕ) → AtRound c (place layer (2 * exponentAt c layer)) (length past) → (s : Stand) → Stands c layer past s
-    → (x y r : ℕ)
-    → r ≡ combined (words (primeOf c)) (gatesIn (take (s .to - s .from) (drop (s .from) c))) (take (s .above) (s .point)) (take (s .own) (s .u)) (take (s .own) (s .v)) x y
+    → (gates : List ℕ) → GatesAbove c layer gates → (x y r : ℕ)
+    → r ≡ combined (words (primeOf c)) (gatesIn gates) (take (s .above) (s .point)) (take (s .own) (s .u)) (take (s .own) (s .v)) x y
     → r ≡ lineClaim c layer (pointAt c layer past) (fixed c layer past) x y
 unfolding lineClaim
-line-claim c layer past h s t x y r e =
+line-claim c layer past h s t gates above x y r e =
     let N = words (primeOf c) in
     let k : ℕ = exponentAt c layer in
     let xs : List ℕ = fixed c layer past in
@@ -31,7 +32,7 @@ line-claim c layer past h s t x y r e =
     let wide-v : length (drop k xs) ≡ k = length-drop k xs ∙ omega arith in
     let u : take (s .own) (s .u) ≡ take k xs = ap (λ (n : ℕ). take n (s .u)) (t .own ∙ sym wide-u) ∙ t .first .holds in
     let v : take (s .own) (s .v) ≡ drop k xs = ap (λ (n : ℕ). take n (s .v)) (t .own ∙ sym wide-v) ∙ t .second .holds in
-    e ∙ ap₂ (λ (g : List Gate) (z : List ℕ). combined N g z (take (s .own) (s .u)) (take (s .own) (s .v)) x y) (t .gates) (above-point c layer (2 * k) past h s t)
+    e ∙ ap₂ (λ (g : List Gate) (z : List ℕ). combined N g z (take (s .own) (s .u)) (take (s .own) (s .v)) x y) (gates-above c layer (2 * k) past h gates above) (above-point c layer (2 * k) past h s t)
     ∙ ap₂ (λ (i j : List ℕ). combined N (gatesAbove c layer) (pointAt c layer past) i j x y) u v
 
 -- the code's round is the line's

@@ -5,7 +5,7 @@ use field::Field;
 use refusal::Cause;
 use refusal::Checked;
 ghost use mathlib.Core.Path.{_≡_};
-ghost use Prim.Native.Nat.{_*_, _≤_};
+ghost use Prim.Native.Nat.{_*_};
 ghost use lib.ListN.{length};
 ghost use Rattle.refusal.specs.Number.{causeOf};
 ghost use Rattle.circuit.specs.Circuit.{exponentAt};
@@ -15,28 +15,32 @@ ghost use Rattle.protocol.specs.Check.{Counted};
 
 // The summand at the two points of a layer's line, with x and y for what the line gives at its ends.
 fn line_claim(circuit: &[u32], layer: usize, past: &[u32], x: u32, y: u32) -> u32
-    requires { ⌜ 1 ≤ length (now circuit) ⌝ }
     ensures { λ r. ⌜ (AtRound (now (circuit .entry)) (place layer (2 * exponentAt (now (circuit .entry)) layer)) (length (now (past .entry))) → r ≡ lineClaim (now (circuit .entry)) layer (pointAt (now (circuit .entry)) layer (now (past .entry))) (fixed (now (circuit .entry)) layer (now (past .entry))) x y) ⌝ }
 {
-    let round = 2 * standing::exponent(circuit, layer) as usize;
+    let round = 2 * layout::exponent(circuit, layer) as usize;
     let s = standing::at_round(circuit, layer, round, past);
-    let from = s.from;
-    let to = s.to;
     let above = s.above;
     let point = s.point;
     let u = s.u;
     let v = s.v;
     let points = [u, v];
-    let f = Field::of(circuit[0]);
-    summand::combined(f, &circuit[from..to], &point[..above], points, s.own, x, y)
+    let f = Field::of(layout::prime(circuit));
+    summand::combined(
+        f,
+        layout::gates_above(circuit, layer),
+        &point[..above],
+        points,
+        s.own,
+        x,
+        y,
+    )
 }
 
 // What a message gives that must equal the standing claim.
 fn compared(circuit: &[u32], layer: usize, round: usize, past: &[u32], message: &[u32]) -> u32
-    requires { ⌜ 1 ≤ length (now circuit) ⌝ }
     ensures { λ r. ⌜ (AtRound (now (circuit .entry)) (place layer round) (length (now (past .entry))) → r ≡ compared (now (circuit .entry)) (isLine (now (circuit .entry)) (place layer round)) (place layer round) (now (past .entry)) (now (message .entry))) ⌝ }
 {
-    let f = Field::of(circuit[0]);
+    let f = Field::of(layout::prime(circuit));
     let x = polynomial::value_at(f, message, 0);
     let y = polynomial::value_at(f, message, 1);
     if standing::is_line(circuit, layer, round) {
@@ -56,13 +60,10 @@ pub fn judge(
 ) -> Checked
     ensures { λ r. ⌜ (AtRound (now (circuit .entry)) (place layer round) (length (now (past .entry))) → causeOf r ≡ judge (now (circuit .entry)) (place layer round) (now (past .entry)) claim (now (message .entry))) ⌝ }
 {
-    if circuit.len() < 1 {
-        return Checked::Refused(Cause::HeaderShort);
-    }
     if message.len() != standing::message_length(circuit, layer, round) {
         return Checked::Refused(Cause::MessageLength);
     }
-    if !legality::all_below(message, circuit[0]) {
+    if !legality::all_below(message, layout::prime(circuit)) {
         return Checked::Refused(Cause::MessageWord);
     }
     if compared(circuit, layer, round, past, message) == claim {
@@ -78,8 +79,8 @@ pub fn judge(
 pub fn input_agrees(circuit: &[u32], input: &[u32], coins: &[u32], claim: u32) -> bool
     ensures { λ r. ⌜ (Counted (now (circuit .entry)) (now (input .entry)) (now (coins .entry)) → r ≡ inputAgrees (now (circuit .entry)) (now (input .entry)) (now (coins .entry)) claim) ⌝ }
 {
-    let depth = lists::word(circuit, 1) as usize;
+    let depth = layout::depth(circuit);
     let point = standing::standing_point(circuit, depth + 1, coins);
-    let k = lists::least(standing::exponent(circuit, depth) as usize, MAX_COORDINATES);
-    extension::extend(Field::of(lists::word(circuit, 0)), input, &point[..k]) == claim
+    let k = lists::least(layout::exponent(circuit, depth) as usize, MAX_COORDINATES);
+    extension::extend(Field::of(layout::prime(circuit)), input, &point[..k]) == claim
 }

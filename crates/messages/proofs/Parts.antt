@@ -6,23 +6,22 @@ use mathlib.Core.List.{List}
 use native.Mathlib.Omega.{arith}
 use lib.Pow.{pow-pos}
 use lib.ListN.{length, length-take, length-drop, take, drop}
-use Rattle.circuit.specs.Limits.{maxDepth}
-use Rattle.circuit.specs.Circuit.{exponents, exponentAt, outputExponent, widthOf, gateCount}
-use Rattle.circuit.proofs.Sized.{width-small}
-use Rattle.standing.specs.Standing.{GatesBefore}
-use Rattle.standing.proofs.Gates.{exponent-width}
+use Rattle.circuit.specs.Limits.{maxDepth, maxWidth}
+use Rattle.circuit.specs.Circuit.{exponentAt, widthOf, gatesBefore}
+use Rattle.circuit.proofs.Sized.{width-small, exponent-width}
+use Rattle.layout.specs.Gates.{GatesBefore}
 use Rattle.standing.proofs.Rounds.{own-layer}
 use Rattle.messages.specs.Writing.{valuesIn, Writable}
 
 -- the part that the code takes for a layer ends at a small place
-pub part-small : (c : List ℕ) (layer from k w : ℕ) → GatesBefore c layer from → w ≡ widthOf k → from + w ≤ 256 * maxDepth + 256
+pub part-small : (c : List ℕ) (layer from k w : ℕ) → GatesBefore c layer from → w ≡ widthOf k → from + w ≤ maxDepth * maxWidth + maxWidth
 part-small c layer from k w before ew = omega (arith, before .few, ew, width-small k)
 
 -- it is the layer's
 module _ (c : List ℕ) (layer round : ℕ) (past values buffer : List ℕ) (h : Writable c layer round past (valuesIn c layer values) buffer) (from k w : ℕ)
     (before : GatesBefore c layer from) (ek : k ≡ exponentAt c layer) (ew : w ≡ widthOf k) where
-  at-from : from ≡ gateCount (outputExponent c) (take layer (exponents c))
-  at-from = before .counted (h .there .legal) (h .there .last)
+  at-from : from ≡ gatesBefore c layer
+  at-from = before .counted (own-layer c layer round past (h .there))
 
   wide : w ≡ 2 ^ exponentAt c layer
   wide = ew ∙ ap widthOf ek ∙ exponent-width c layer (own-layer c layer round past (h .there))
@@ -30,7 +29,7 @@ module _ (c : List ℕ) (layer round : ℕ) (past values buffer : List ℕ) (h :
   pub part-inside : from + w ≤ length values
   part-inside =
       let n : ℕ = 2 ^ exponentAt c layer in
-      let m : ℕ = gateCount (outputExponent c) (take layer (exponents c)) in
+      let m : ℕ = gatesBefore c layer in
       let some : 0 < n = pow-pos (exponentAt c layer) in
       omega (arith, at-from, wide, some, h .sized, length-take n (drop m values), length-drop m values)
 

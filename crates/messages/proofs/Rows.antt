@@ -21,8 +21,9 @@ use Rattle.algebra.specs.Numbers.{Numbers, words}
 use Rattle.circuit.specs.Limits.{maxExponent}
 use Rattle.circuit.specs.Gate.{Gate}
 use Rattle.circuit.specs.Circuit.{primeOf, depth, exponentAt}
-use Rattle.circuit.proofs.Legal.{length-gates}
+use Rattle.circuit.proofs.Gates.{layer-count}
 use Rattle.circuit.proofs.Layers.{legal-wires}
+use Rattle.layout.specs.Gates.{GatesAbove}
 use Rattle.sumcheck.specs.Message.{sumMessage, lineMessage}
 use Rattle.sumcheck.specs.Line.{lineHalving}
 use Rattle.sumcheck.specs.Gatewise.{sumByGates}
@@ -37,11 +38,10 @@ use Rattle.sums.proofs.Rounds.{honest-round}
 use Rattle.protocol.specs.Rounds.{place, isLine, AtRound}
 use Rattle.protocol.specs.Judge.{fixed, pointAt, gatesAbove, messageLength}
 use Rattle.protocol.specs.Prove.{messageFrom}
-use Rattle.standing.specs.Standing.{Row, Stands, gatesFrom}
+use Rattle.standing.specs.Standing.{Row, Stands}
 use Rattle.standing.specs.declared.Stand.{Stand}
-use Rattle.standing.proofs.Gates.{gates-at}
 use Rattle.standing.proofs.Lengths.{length-of-line, length-of-sum}
-use Rattle.standing.proofs.Rounds.{own-small, own-coins, point-size, above-point}
+use Rattle.standing.proofs.Rounds.{own-small, own-coins, point-size, gates-above, above-point}
 use Rattle.messages.specs.Writing.{Writable}
 
 -- the front of a computed row, put over a buffer that holds it
@@ -100,7 +100,7 @@ module _ (c : List ℕ) (layer round : ℕ) (past vs buffer : List ℕ) (h : Wri
       go zero low n = absurd (omega arith)
       go (suc i) low n =
           let e : suc i - 1 ≡ i = omega arith in
-          ap length (sym (gates-at c (here .legal) i n)) ∙ length-gates (2 ^ exponentAt c i) (drop (gatesFrom c i) c) ∙ ap (λ (j : ℕ). 2 ^ exponentAt c j) (sym e)
+          layer-count c (here .legal .sized .headed) i n ∙ ap (λ (j : ℕ). 2 ^ exponentAt c j) (sym e)
 
   -- a message has its round's length
   pub message-size : length (messageFrom c vs (place layer round) past) ≡ messageLength c (place layer round)
@@ -139,10 +139,10 @@ module _ (c : List ℕ) (layer round : ℕ) (past vs buffer : List ℕ) (h : Wri
     abbrev rows : List (List ℕ)
     rows = s .u ∷ s .v ∷ []
 
-    pub sum-words : isLine c (place layer round) ≡ false → (r : List ℕ)
-        → r ≡ sumByGates (words (primeOf c)) (min (s .own) maxExponent) (gatesIn (take (s .to - s .from) (drop (s .from) c))) (take (s .above) (s .point)) (take tableWidth vs) (fixedFirst (min (s .own) maxExponent) round rows) (fixedSecond (min (s .own) maxExponent) round rows)
+    pub sum-words : isLine c (place layer round) ≡ false → (gates : List ℕ) → GatesAbove c layer gates → (r : List ℕ)
+        → r ≡ sumByGates (words (primeOf c)) (min (s .own) maxExponent) (gatesIn gates) (take (s .above) (s .point)) (take tableWidth vs) (fixedFirst (min (s .own) maxExponent) round rows) (fixedSecond (min (s .own) maxExponent) round rows)
         → r ≡ messageFrom c vs (place layer round) past
-    sum-words nl r e =
+    sum-words nl gates above r e =
         let N = words (primeOf c) in
         let k : ℕ = exponentAt c layer in
         let xs : List ℕ = fixed c layer past in
@@ -158,8 +158,8 @@ module _ (c : List ℕ) (layer round : ℕ) (past vs buffer : List ℕ) (h : Wri
         (h .sized) wired (le-of-eq (count-above ∙ ap (λ (n : ℕ). 2 ^ n) (sym (point-size c layer round past here)))) in
         let back : take round (take k (s .u) ++ take k (s .v)) ≡ xs =
         ap (λ (n : ℕ). take n (take k (s .u) ++ take k (s .v))) (sym size) ∙ rows-back k xs (s .u) (s .v) small (omega arith) (t .first) (t .second) in
-        e ∙ ap (λ (n : ℕ). ms n (gatesIn (take (s .to - s .from) (drop (s .from) c))) (take (s .above) (s .point))) (t .own)
-        ∙ ap₂ (ms k) (t .gates) point ∙ law
+        e ∙ ap (λ (n : ℕ). ms n (gatesIn gates) (take (s .above) (s .point))) (t .own)
+        ∙ ap₂ (ms k) (gates-above c layer round past here gates above) point ∙ law
         ∙ ap (sumMessage N k (gatesAbove c layer) (pointAt c layer past) vs) back
         ∙ sym (ap (λ (b : Bool). cond b (lineMessage N vs (take k xs) (drop k xs)) (sumMessage N k (gatesAbove c layer) (pointAt c layer past) vs xs)) nl)
 

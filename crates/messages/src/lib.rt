@@ -20,16 +20,14 @@ fn write_sum(
     ensures { λ _. ⌜ (Writable (now (circuit .entry)) layer round (now (past .entry)) (now (values .entry)) (now (buffer .entry)) → isLine (now (circuit .entry)) (place layer round) ≡ false → now (buffer .exit) ≡ over (messageFrom (now (circuit .entry)) (now (values .entry)) (place layer round) (now (past .entry))) (now (buffer .entry))) ⌝ }
 {
     let s = standing::at_round(circuit, layer, round, past);
-    let from = s.from;
-    let to = s.to;
     let point = s.point;
     let u = s.u;
     let v = s.v;
     let points = [u, v];
-    let f = Field::of(lists::word(circuit, 0));
+    let f = Field::of(layout::prime(circuit));
     let words = sums::sum_message(
         f,
-        &circuit[from..to],
+        layout::gates_above(circuit, layer),
         point,
         s.above,
         values,
@@ -56,7 +54,7 @@ fn write_line(
     let u = s.u;
     let v = s.v;
     let points = [u, v];
-    let f = Field::of(lists::word(circuit, 0));
+    let f = Field::of(layout::prime(circuit));
     let words = line::line_message(f, values, points, own);
     let count = own + 1;
     lists::put(buffer, &words[..count]);
@@ -73,8 +71,8 @@ pub fn write_message(
 )
     ensures { λ _. ⌜ (Writable (now (circuit .entry)) layer round (now (past .entry)) (valuesIn (now (circuit .entry)) layer (now (values .entry))) (now (buffer .entry)) → now (buffer .exit) ≡ over (messageFrom (now (circuit .entry)) (valuesIn (now (circuit .entry)) layer (now (values .entry))) (place layer round) (now (past .entry))) (now (buffer .entry))) ⌝ }
 {
-    let from = standing::gates_before(circuit, layer);
-    let to = from + legality::width(standing::exponent(circuit, layer));
+    let from = layout::gates_before(circuit, layer);
+    let to = from + layout::width(layout::exponent(circuit, layer));
     if values.len() < to {
         return;
     }

@@ -49,8 +49,8 @@ fn write_all(circuit: &[u32], input: &[u32], coins: &[u32], messages: &mut [u32]
     fill_values(circuit, input, &mut values);
     let mut n = standing::coins_before(circuit, 1);
     let mut at = 0;
-    for layer in 1..circuit[1] as usize + 1 {
-        for round in 0..2 * standing::exponent(circuit, layer) as usize + 1 {
+    for layer in 1..layout::depth(circuit) + 1 {
+        for round in 0..2 * layout::exponent(circuit, layer) as usize + 1 {
             messages::write_message(
                 circuit,
                 layer,
@@ -101,7 +101,7 @@ fn place_after(circuit: &[u32], coins: usize) -> Place
     let mut layer = 1;
     let mut round = coins;
     loop {
-        let line = 2 * standing::exponent(circuit, layer) as usize;
+        let line = 2 * layout::exponent(circuit, layer) as usize;
         if round <= line {
             break Place { layer, round };
         }
@@ -121,7 +121,7 @@ pub fn prove_one(circuit: &[u32], input: &[u32], prefix: &[u32], buffer: &mut [u
     if standing::coin_count(circuit) <= prefix.len() {
         return Message::Refused(Cause::CoinCount);
     }
-    if !legality::all_below(prefix, circuit[0]) {
+    if !legality::all_below(prefix, layout::prime(circuit)) {
         return Message::Refused(Cause::CoinWord);
     }
     let place = place_after(circuit, prefix.len());

@@ -15,10 +15,12 @@ use Rattle.refusal.specs.Order.{need, first}
 use Rattle.refusal.specs.declared.Cause.{Cause}
 use Rattle.refusal.specs.declared.Cause.the-variants.{RecordUnfit}
 use Rattle.refusal.proofs.Order.{numbered-suc, refused-first}
+use Rattle.circuit.specs.Limits.{maxCoins}
 use Rattle.circuit.specs.Circuit.{primeOf, depth, outputExponent, exponents, exponentAt, coinCount}
 use Rattle.circuit.specs.Legal.{allBelow, listsCause}
 use Rattle.circuit.proofs.Loading.{split-true}
 use Rattle.circuit.proofs.Sized.{deep}
+use Rattle.circuit.proofs.Largest.{in-limits}
 use Rattle.walk.specs.Session.{Answer, refused, Record, ended, stepFinal, stepLast, stepJudge, stepOpen, step}
 use Rattle.protocol.specs.Rounds.{Place, place, coinsOf, layerStart, isLine, coinsBefore, isLast, AtRound}
 use Rattle.protocol.specs.Judge.{messageAt, judge, inputAgrees, descent}
@@ -29,9 +31,7 @@ use Rattle.protocol.proofs.Rounds.{coins-append}
 use Rattle.session.specs.Answers.{recordOf, verdictOf, Fitting, goesOn, GoesOn, StepsOpen, Steps}
 use Rattle.session.specs.declared.Session.{Session}
 use Rattle.session.specs.declared.Stepped.{Stepped}
-use Rattle.standing.proofs.Gates.{exponent-small}
-use Rattle.standing.proofs.Coins.{start-few}
-use Rattle.session.proofs.Records.{legal, own, own-layer}
+use Rattle.session.proofs.Records.{legal, own}
 
 -- the coins of the layers up to here are among all
 some-coins : (c : List ℕ) (l : ℕ) → layerStart c (suc l) ≤ coinCount c
@@ -58,15 +58,8 @@ module _ (c input cs : List ℕ) (s : Session) (h : Fitting c input cs s) (n : �
   pub coin-inside : n < length cs
   coin-inside = let inside = coin-in in omega (arith, h .given .coins)
 
-  pub coins-few : n ≤ 65536
-  coins-few =
-      let o = own c input cs s h in
-      let low = legal c input cs s h .sized .headed .shallow in
-      let inside = o .inside in
-      let reached = o .reached in
-      let small = exponent-small c (s .layer) (own-layer c input cs s h) in
-      let before = start-few c (legal c input cs s h) (s .layer) inside in
-      omega arith
+  pub coins-few : n ≤ maxCoins
+  coins-few = let inside = coin-in in omega (arith, in-limits c (legal c input cs s h) .coins)
 
   pub at-round : AtRound c (place (s .layer) (s .round)) (length (take n cs))
   at-round =

@@ -9,10 +9,11 @@ use native.Mathlib.Omega.{arith}
 use lib.Dec.{ltb, leb, eqb}
 use lib.ListN.{length}
 use borrow.Author.Tests.{le-leb, lt-leb, leb-true, ltb-true, eq-eqb, ne-eqb}
+use Rattle.circuit.specs.Limits.{maxDepth, maxExponent}
 use Rattle.circuit.specs.Circuit.{primeOf, depth, exponents, exponentAt}
 use Rattle.circuit.specs.Sized.{LayerOf, LegalCircuit}
 use Rattle.circuit.proofs.Loading.{split-true, legal-lists}
-use Rattle.circuit.proofs.Sized.{deep}
+use Rattle.circuit.proofs.Sized.{deep, exponent-small, layer-of}
 use Rattle.walk.specs.Session.{accepted, goOn, refused, Record, at, ended, stepFinal}
 use Rattle.protocol.specs.Rounds.{Place, place, isLine, isLast}
 use Rattle.protocol.specs.Judge.{inputAgrees}
@@ -21,8 +22,6 @@ use Rattle.session.specs.Answers.{recordOf, verdictOf, Fitting, goesOn, 
 use Rattle.session.specs.declared.Session.{Session}
 use Rattle.session.specs.declared.Stepped.{Stepped}
 use Rattle.standing.specs.Standing.{LayerSoFar}
-use Rattle.standing.proofs.Gates.{exponent-small}
-use Rattle.standing.proofs.Coins.{layer-of}
 
 module _ (c : List ℕ) (h : LegalCircuit c) (s : Record Place) where
   pub fits-closed : s .opened ≡ false → false ≡ recordFits c s
@@ -95,19 +94,16 @@ module _ (c input cs : List ℕ) (s : Session) (h : Fitting c input cs s) where
   pub own : Fit c legal (recordOf s)
   own = fit c legal (recordOf s) (h .fits)
 
-  pub long : 2 + depth c ≤ length c
-  long = legal .sized .headed .long
-
   pub own-layer : LayerOf c (s .layer)
   own-layer = layer-of c legal (s .layer) (own .inside)
 
   pub own-start : LayerSoFar c (s .layer)
   own-start = let inside = own .inside in record { legal = legal; first = own .low; last = omega arith }
 
-  pub small-round : s .round ≤ 16
+  pub small-round : s .round ≤ 2 * maxExponent
   small-round = let low = exponent-small c (s .layer) own-layer in let reached = own .reached in omega arith
 
-  pub small-layer : s .layer ≤ 16
+  pub small-layer : s .layer ≤ maxDepth
   small-layer = let low = legal .sized .headed .shallow in let inside = own .inside in omega arith
 
   at-end : ¬ (s .layer < depth c) → s .layer ≡ length (exponents c)

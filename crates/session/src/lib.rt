@@ -45,7 +45,7 @@ pub fn open(circuit: &[u32], input: &[u32], output: u32, coins: &[u32]) -> Openi
     if let Checked::Refused(cause) = lists {
         return Opening::Refused(cause);
     }
-    if circuit[0] <= output {
+    if layout::prime(circuit) <= output {
         return Opening::Refused(Cause::OutputWord);
     }
     let taken = standing::check_coins(circuit, coins);
@@ -71,13 +71,13 @@ fn fits(circuit: &[u32], session: Session) -> bool
     if session.layer < 1 {
         return false;
     }
-    if circuit[1] < session.layer {
+    if layout::depth(circuit) < session.layer as usize {
         return false;
     }
-    if 2 * standing::exponent(circuit, session.layer as usize) < session.round {
+    if 2 * layout::exponent(circuit, session.layer as usize) < session.round {
         return false;
     }
-    session.claim < circuit[0]
+    session.claim < layout::prime(circuit)
 }
 
 // A refusal that leaves the record.
@@ -133,7 +133,7 @@ fn go_on(
         let round = session.round + 1;
         return went_on(session.layer, round, coin, claim);
     }
-    if session.layer < circuit[1] {
+    if (session.layer as usize) < layout::depth(circuit) {
         let layer = session.layer + 1;
         return went_on(layer, 0, coin, claim);
     }
@@ -172,7 +172,7 @@ fn step_open(
         };
     }
     let coin = coins[n];
-    let claim = polynomial::value_at(Field::of(circuit[0]), message, coin);
+    let claim = polynomial::value_at(Field::of(layout::prime(circuit)), message, coin);
     go_on(circuit, input, coins, session, coin, claim)
 }
 

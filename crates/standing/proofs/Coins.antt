@@ -12,16 +12,11 @@ use borrow.Author.Tests.{eq-eqb, ne-eqb}
 use Rattle.lists.proofs.Count.{sum-nil, sum-take}
 use Rattle.circuit.specs.Circuit.{primeOf, depth, outputExponent, exponents, exponentAt, coinCount, messageWords}
 use Rattle.circuit.specs.Legal.{allBelow}
-use Rattle.circuit.specs.Sized.{LayerOf, LegalCircuit}
-use Rattle.circuit.proofs.Sized.{one-output, deep}
+use Rattle.circuit.specs.Sized.{LegalCircuit}
+use Rattle.circuit.proofs.Sized.{deep}
 use Rattle.protocol.specs.Rounds.{layerStart}
 use Rattle.protocol.specs.Check.{needCoins}
-use Rattle.protocol.proofs.Points.{start-next}
 use Rattle.standing.specs.Standing.{LayerSoFar, layerSum}
-use Rattle.standing.proofs.Gates.{exponent-small}
-
-pub layer-of : (c : List ℕ) → LegalCircuit c → (i : ℕ) → i ≤ depth c → LayerOf c i
-layer-of c h i n = record { headed = h .sized .headed; inside = n }
 
 -- one layer's part is far from the end of a word of 64 bits
 pub times-small : (a k : ℕ) → a ≤ 7 → k < 4294967296 → a * k ≤ 30064771072
@@ -46,6 +41,12 @@ module _ (c : List ℕ) (first a : ℕ) where
   pub sum-all : LegalCircuit c → so (depth c + 1 - 1) ≡ first + layerSum a (exponents c)
   sum-all h = ap (λ (ks : List ℕ). first + layerSum a ks) (take-all (depth c + 1 - 1) (exponents c) (omega (arith, deep c h)))
 
+  -- the sum before the layer behind the last is the whole
+  pub sum-whole : LegalCircuit c → (d r : ℕ) → d ≡ depth c → (LayerSoFar c (d + 1) → r ≡ so (d + 1 - 1)) → r ≡ first + layerSum a (exponents c)
+  sum-whole h d r e told =
+      told (record { legal = h; first = omega arith; last = omega arith })
+      ∙ ap (λ (n : ℕ). so (n + 1 - 1)) e ∙ sum-all h
+
 module _ (c : List ℕ) where
   pub so-far : LegalCircuit c → LayerSoFar c (depth c + 1)
   so-far h = record { legal = h; first = omega arith; last = omega arith }
@@ -61,15 +62,6 @@ module _ (c : List ℕ) where
   pub sum-words : 0 + layerSum 7 (exponents c) ≡ messageWords c
   unfolding messageWords
   sum-words = zero-add (layerSum 7 (exponents c))
-
-  -- at most 17 coins a layer
-  pub start-few : LegalCircuit c → (i : ℕ) → i ≤ depth c → layerStart c i ≤ 17 * i
-  start-few h zero n = omega arith
-  start-few h (suc zero) n = omega (arith, sum-nil, one-output c)
-  start-few h (suc (suc l)) n =
-      let next : layerStart c (suc (suc l)) ≡ layerStart c (suc l) + 2 * exponentAt c (suc l) + 1 = start-next c l (omega (arith, deep c h)) in
-      let small = exponent-small c (suc l) (layer-of c h (suc l) (omega arith)) in
-      omega (arith, next, small, start-few h (suc l) (omega arith))
 
 -- 11 AND 12
 module _ (c cs : List ℕ) where

@@ -1,4 +1,3 @@
-pub mod Gates
 pub mod Points
 pub mod Coins
 pub mod Lengths

@@ -12,7 +12,7 @@ use Rattle.algebra.specs.Numbers.{words}
 use Rattle.circuit.specs.Limits.{maxExponent}
 use Rattle.circuit.specs.Circuit.{primeOf, depth, outputExponent, exponentAt}
 use Rattle.circuit.specs.Sized.{LayerOf}
-use Rattle.circuit.proofs.Sized.{one-output, deep}
+use Rattle.circuit.proofs.Sized.{one-output, deep, exponent-small}
 use Rattle.sumcheck.specs.Summand.{linePoint}
 use Rattle.sumcheck.proofs.Message.{length-line}
 use Rattle.sumcheck.proofs.Words.{line-point-length}
@@ -22,7 +22,6 @@ use Rattle.protocol.specs.Rounds.{layerStart}
 use Rattle.protocol.specs.Judge.{lineEnd, pointAt}
 use Rattle.protocol.proofs.Points.{start-next}
 use Rattle.standing.specs.Standing.{AtLayer, Row}
-use Rattle.standing.proofs.Gates.{exponent-small}
 
 -- the layer above, a layer of the circuit
 pub layer-above : (c : List ℕ) (layer : ℕ) (past : List ℕ) → AtLayer c layer (length past) → LayerOf c (layer - 1)

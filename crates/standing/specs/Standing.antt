@@ -5,12 +5,11 @@ use mathlib.Core.Path.{_≡_}
 use mathlib.Core.List.{List, map}
 use lib.ListN.{length, take, drop}
 use Rattle.lists.specs.Count.{sum}
-use Rattle.circuit.specs.Limits.{maxDepth, maxExponent}
-use Rattle.circuit.specs.Circuit.{depth, exponents, exponentAt, gatesStart, outputExponent, gateCount}
+use Rattle.circuit.specs.Limits.{maxExponent}
+use Rattle.circuit.specs.Circuit.{depth, exponents, exponentAt}
 use Rattle.circuit.specs.Sized.{LegalCircuit}
-use Rattle.summand.specs.Gates.{gatesIn}
 use Rattle.protocol.specs.Rounds.{layerStart}
-use Rattle.protocol.specs.Judge.{fixed, pointAt, gatesAbove}
+use Rattle.protocol.specs.Judge.{fixed, pointAt}
 use Rattle.standing.specs.declared.Stand.{Stand}
 
 -- a layer that a claim can stand at, after n coins, those before it; D + 1 is behind the last
@@ -19,15 +18,6 @@ pub record AtLayer (c : List ℕ) (layer n : ℕ) : Type 0 where
   pub first : 1 ≤ layer
   pub last : layer ≤ 1 + depth c
   pub counted : n ≡ layerStart c layer
-
--- the gates of the layers before one: not more than a circuit has
-pub record GatesBefore (c : List ℕ) (layer r : ℕ) : Type 0 where
-  pub few : r ≤ 256 * maxDepth
-  pub counted : LegalCircuit c → layer ≤ depth c → r ≡ gateCount (outputExponent c) (take layer (exponents c))
-
--- where the gates of a layer start
-unfoldable pub gatesFrom : List ℕ → ℕ → ℕ
-gatesFrom c layer = gatesStart c + 3 * gateCount (outputExponent c) (take layer (exponents c))
 
 -- a row of eight words with a point's coordinates in front
 pub record Row (point row : List ℕ) : Type 0 where
@@ -44,18 +34,15 @@ pub record LayerSoFar (c : List ℕ) (layer : ℕ) : Type 0 where
 abbrev pub layerSum : ℕ → List ℕ → ℕ
 layerSum a ks = sum (map (λ k. a * k + 1) ks)
 
--- the parts that a stand names are there
-pub record Within (c : List ℕ) (s : Stand) : Type 0 where
+-- a stand's exponents are no more than a row holds
+pub record Within (s : Stand) : Type 0 where
   pub above : s .above ≤ maxExponent
   pub own : s .own ≤ maxExponent
-  pub ordered : s .from ≤ s .to
-  pub inside : s .to ≤ length c
 
 -- what stands at a round
 pub record Stands (c : List ℕ) (layer : ℕ) (past : List ℕ) (s : Stand) : Type 0 where
   pub above : s .above ≡ exponentAt c (layer - 1)
   pub own : s .own ≡ exponentAt c layer
-  pub gates : gatesIn (take (s .to - s .from) (drop (s .from) c)) ≡ gatesAbove c layer
   pub point : Row (pointAt c layer past) (s .point)
   pub first : Row (take (exponentAt c layer) (fixed c layer past)) (s .u)
   pub second : Row (drop (exponentAt c layer) (fixed c layer past)) (s .v)

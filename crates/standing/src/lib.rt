@@ -2,39 +2,26 @@
 // is total; some promise nothing where the list is no legal circuit or the coins are not those before the place.
 use extension::MAX_COORDINATES;
 use field::Field;
-use legality::MAX_DEPTH;
+use layout::MAX_DEPTH;
 use refusal::Cause;
 use refusal::Checked;
 ghost use mathlib.Core.Path.{_≡_};
-ghost use Prim.Native.Nat.{_+_, _-_, _*_, _≤_};
+ghost use Prim.Native.Nat.{_+_, _-_, _≤_};
 ghost use lib.ListN.{length, take};
 ghost use Rattle.refusal.specs.Number.{causeOf};
 ghost use Rattle.circuit.specs.Limits.{maxExponent};
-ghost use Rattle.circuit.specs.Circuit.{depth, exponents, exponentAt, coinCount, messageWords};
+ghost use Rattle.circuit.specs.Circuit.{exponents, coinCount, messageWords};
 ghost use Rattle.circuit.specs.Sized.{LegalCircuit};
 ghost use Rattle.protocol.specs.Rounds.{place, layerStart, isLine, AtRound};
 ghost use Rattle.protocol.specs.Judge.{pointAt, messageLength};
 ghost use Rattle.protocol.specs.Check.{needCoins};
-ghost use Rattle.standing.specs.Standing.{AtLayer, gatesFrom, GatesBefore, layerSum, LayerSoFar, Row, Within, Stands};
-
-// The width exponent of a layer, 0 for one that the list has not.
-pub fn exponent(circuit: &[u32], layer: usize) -> u32
-    ensures { λ r. ⌜ r ≡ exponentAt (now (circuit .entry)) layer ⌝ }
-{
-    if layer == 0 {
-        return 0;
-    }
-    if (lists::word(circuit, 1) as usize) < layer {
-        return 0;
-    }
-    lists::word(circuit, 1 + layer)
-}
+ghost use Rattle.standing.specs.Standing.{AtLayer, layerSum, LayerSoFar, Row, Within, Stands};
 
 // Whether a round is its layer's line.
 pub fn is_line(circuit: &[u32], layer: usize, round: usize) -> bool
     ensures { λ r. ⌜ r ≡ isLine (now (circuit .entry)) (place layer round) ⌝ }
 {
-    round == 2 * exponent(circuit, layer) as usize
+    round == 2 * layout::exponent(circuit, layer) as usize
 }
 
 // The words of a round's message.
@@ -42,7 +29,7 @@ pub fn message_length(circuit: &[u32], layer: usize, round: usize) -> usize
     ensures { λ r. ⌜ r ≡ messageLength (now (circuit .entry)) (place layer round) ⌝ }
 {
     if is_line(circuit, layer, round) {
-        return exponent(circuit, layer) as usize + 1;
+        return layout::exponent(circuit, layer) as usize + 1;
     }
     3
 }
@@ -52,12 +39,12 @@ fn sum_layers(circuit: &[u32], first: u32, a: usize, layer: usize) -> usize
     requires { ⌜ a ≤ 7 ⌝ }
     ensures { λ r. ⌜ (LayerSoFar (now (circuit .entry)) layer → r ≡ first + layerSum a (take (layer - 1) (exponents (now (circuit .entry))))) ⌝ }
 {
-    if MAX_DEPTH as usize + 1 < layer {
+    if MAX_DEPTH + 1 < layer {
         return 0;
     }
     let mut sum = first as usize;
     for i in 1..layer {
-        sum += a * exponent(circuit, i) as usize + 1;
+        sum += a * layout::exponent(circuit, i) as usize + 1;
     }
     sum
 }
@@ -66,7 +53,7 @@ fn sum_layers(circuit: &[u32], first: u32, a: usize, layer: usize) -> usize
 pub fn coins_before(circuit: &[u32], layer: usize) -> usize
     ensures { λ r. ⌜ (LayerSoFar (now (circuit .entry)) layer → r ≡ layerStart (now (circuit .entry)) layer) ⌝ }
 {
-    sum_layers(circuit, exponent(circuit, 0), 2, layer)
+    sum_layers(circuit, layout::exponent(circuit, 0), 2, layer)
 }
 
 // The coins of a circuit.
@@ -75,9 +62,9 @@ pub fn coin_count(circuit: &[u32]) -> usize
 {
     sum_layers(
         circuit,
-        exponent(circuit, 0),
+        layout::exponent(circuit, 0),
         2,
-        lists::word(circuit, 1) as usize + 1,
+        layout::depth(circuit) + 1,
     )
 }
 
@@ -85,7 +72,7 @@ pub fn coin_count(circuit: &[u32]) -> usize
 pub fn message_words(circuit: &[u32]) -> usize
     ensures { λ r. ⌜ (LegalCircuit (now (circuit .entry)) → r ≡ messageWords (now (circuit .entry))) ⌝ }
 {
-    sum_layers(circuit, 0, 7, lists::word(circuit, 1) as usize + 1)
+    sum_layers(circuit, 0, 7, layout::depth(circuit) + 1)
 }
 
 // The refusals 11 and 12.
@@ -95,7 +82,7 @@ pub fn check_coins(circuit: &[u32], coins: &[u32]) -> Checked
     if coins.len() != coin_count(circuit) {
         return Checked::Refused(Cause::CoinCount);
     }
-    if !legality::all_below(coins, lists::word(circuit, 0)) {
+    if !legality::all_below(coins, layout::prime(circuit)) {
         return Checked::Refused(Cause::CoinWord);
     }
     Checked::Legal
@@ -117,7 +104,7 @@ pub fn standing_point(circuit: &[u32], layer: usize, past: &[u32]) -> [u32; MAX_
     if layer < 2 {
         return row(past);
     }
-    let k = exponent(circuit, layer - 1) as usize;
+    let k = layout::exponent(circuit, layer - 1) as usize;
     if past.len() < 2 * k + 1 {
         return [0u32; MAX_COORDINATES];
     }
@@ -125,37 +112,14 @@ pub fn standing_point(circuit: &[u32], layer: usize, past: &[u32]) -> [u32; MAX_
     let v = t - k;
     let u = v - k;
     let points = [row(&past[u..v]), row(&past[v..t])];
-    summand::line_point(Field::of(lists::word(circuit, 0)), points, past[t])
+    summand::line_point(Field::of(layout::prime(circuit)), points, past[t])
 }
 
-// The gates of the layers before one.
-pub fn gates_before(circuit: &[u32], layer: usize) -> usize
-    ensures { λ r. ⌜ GatesBefore (now (circuit .entry)) layer r ⌝ }
-{
-    if (MAX_DEPTH as usize) < layer {
-        return 0;
-    }
-    let mut count = 0;
-    for i in 0..layer {
-        count += legality::width(exponent(circuit, i));
-    }
-    count
-}
-
-// Where the gates of a layer start.
-fn gates_from(circuit: &[u32], layer: usize) -> usize
-    ensures { λ r. ⌜ (LegalCircuit (now (circuit .entry)) → layer ≤ depth (now (circuit .entry)) → r ≡ gatesFrom (now (circuit .entry)) layer) ⌝ }
-{
-    2 + lists::word(circuit, 1) as usize + 3 * gates_before(circuit, layer)
-}
-
-// What stands at a round: the exponents of the layer above and of its own, the part of the list with the gates above, the standing point, and
-// the layer's coins so far as coordinates of its two points.
+// What stands at a round: the exponents of the layer above and of its own, the standing point, and the layer's coins so far as coordinates of
+// its two points.
 pub struct Stand {
     pub above: usize,
     pub own: usize,
-    pub from: usize,
-    pub to: usize,
     pub point: [u32; MAX_COORDINATES],
     pub u: [u32; MAX_COORDINATES],
     pub v: [u32; MAX_COORDINATES],
@@ -163,23 +127,20 @@ pub struct Stand {
 
 // What stands where there is no such round.
 fn nothing() -> Stand
-    ensures { λ r. ⌜ (r .above ≡ 0) × (r .own ≡ 0) × (r .from ≡ 0) × (r .to ≡ 0) ⌝ }
+    ensures { λ r. ⌜ (r .above ≡ 0) × (r .own ≡ 0) ⌝ }
 {
     Stand {
         above: 0,
         own: 0,
-        from: 0,
-        to: 0,
         point: [0u32; MAX_COORDINATES],
         u: [0u32; MAX_COORDINATES],
         v: [0u32; MAX_COORDINATES],
     }
 }
 
-// What stands at a round, from the coins before it. Whatever the list, the parts that it names are there: the numbers are cut to the list's
-// length and to a row's.
+// What stands at a round, from the coins before it. Whatever the list, its numbers are cut to a row's length.
 pub fn at_round(circuit: &[u32], layer: usize, round: usize, past: &[u32]) -> Stand
-    ensures { λ r. ⌜ Within (now (circuit .entry)) r × (AtRound (now (circuit .entry)) (place layer round) (length (now (past .entry))) → Stands (now (circuit .entry)) layer (now (past .entry)) r) ⌝ }
+    ensures { λ r. ⌜ Within r × (AtRound (now (circuit .entry)) (place layer round) (length (now (past .entry))) → Stands (now (circuit .entry)) layer (now (past .entry)) r) ⌝ }
 {
     if layer < 1 {
         return nothing();
@@ -187,15 +148,15 @@ pub fn at_round(circuit: &[u32], layer: usize, round: usize, past: &[u32]) -> St
     if past.len() < round {
         return nothing();
     }
-    let own = lists::least(exponent(circuit, layer) as usize, MAX_COORDINATES);
+    let own = lists::least(layout::exponent(circuit, layer) as usize, MAX_COORDINATES);
     let start = past.len() - round;
     let middle = start + lists::least(round, own);
-    let to = lists::least(gates_from(circuit, layer), circuit.len());
     Stand {
-        above: lists::least(exponent(circuit, layer - 1) as usize, MAX_COORDINATES),
+        above: lists::least(
+            layout::exponent(circuit, layer - 1) as usize,
+            MAX_COORDINATES,
+        ),
         own,
-        from: lists::least(gates_from(circuit, layer - 1), to),
-        to,
         point: standing_point(circuit, layer, &past[..start]),
         u: row(&past[start..middle]),
         v: row(&past[middle..]),

@@ -47,7 +47,7 @@ fn cut_at(k: usize, fixed: usize, next: bool) -> Cut
     ensures { λ r. ⌜ CutAt k fixed next r ⌝ }
 {
     let free = k - fixed;
-    let size = legality::width(free as u32);
+    let size = layout::width(free as u32);
     if next {
         return Cut {
             free,
@@ -198,7 +198,7 @@ fn by_side(
         shares,
         table,
         cut,
-        &rshares[..legality::width(second as u32)],
+        &rshares[..layout::width(second as u32)],
         &rtable[..n >> second],
         rcut,
     )
@@ -229,7 +229,7 @@ fn by_points(
         f,
         gates,
         weights,
-        &shares[..legality::width(first as u32)],
+        &shares[..layout::width(first as u32)],
         &table[..n >> first],
         cut,
         values,
@@ -258,7 +258,7 @@ pub fn sum_message(
     let exponent = lists::least(k, MAX_COORDINATES);
     let first = lists::least(fixed, exponent);
     let second = lists::least(fixed - first, exponent);
-    let width = legality::width(lists::least(above, MAX_COORDINATES) as u32);
+    let width = layout::width(lists::least(above, MAX_COORDINATES) as u32);
     let mut weights = [0u32; MAX_WIDTH];
     tables::weights(f, point, above, &mut weights);
     let u = points[0];

@@ -19,13 +19,13 @@ use Rattle.circuit.specs.Values.{value}
 use Rattle.circuit.proofs.Layers.{all-below}
 use Rattle.circuit.proofs.Loading.{legal-lists}
 use Rattle.protocol.specs.Check.{needCoins}
+use Rattle.circuit.proofs.Largest.{in-limits}
 use Rattle.protocol.specs.Prove.{proved, refused, proofOf, honest, transcript, proveCause, proveAnswer, proveBuffer}
 use Rattle.protocol.proofs.Check.{length-transcript}
 use Rattle.protocol.proofs.Theorems.{honest-fits}
 use Rattle.printing.specs.Printed.{refusedText, answerText}
-use Rattle.transcript_text.specs.Limits.{maxMessageWords}
+use Rattle.circuit.specs.Limits.{maxMessageWords}
 use Rattle.transcript_text.specs.Transcript.{proofText, listsRefusal, listsText}
-use Rattle.transcript_text.proofs.Limits.{words-few}
 
 module _ (c input cs : List ℕ) where
   abbrev ms : List ℕ
@@ -63,7 +63,7 @@ module _ (c input cs : List ℕ) where
         go : (n : ℕ) → listsCause c input ≡ n
             → first n (needCoins c cs (need (leb (messageWords c) (length buffer)) 10 0)) ≡ first n (needCoins c cs 0)
         go zero e =
-            let few = words-few c (legal-lists c input e .circuit) in
+            let few = in-limits c (legal-lists c input e .circuit) .messages in
             ap (λ (b : Bool). needCoins c cs (need b 10 0)) (le-leb (messageWords c) (length buffer) (omega arith))
         go (suc n) e = refl
 

@@ -6,6 +6,7 @@ use native.Mathlib.Omega.{arith}
 use lib.ListN.{length, length-append}
 use Rattle.circuit.specs.Values.{value}
 use Rattle.protocol.specs.Rounds.{rounds}
+use Rattle.circuit.proofs.Largest.{in-limits}
 use Rattle.protocol.specs.Prove.{honest, transcript}
 use Rattle.protocol.proofs.Rounds.{as-many}
 use Rattle.text.specs.Lines.{ascii}
@@ -13,7 +14,7 @@ use Rattle.text.proofs.Lengths.{line-short}
 use Rattle.printing.proofs.Lengths.{answer-short}
 use Rattle.transcript_text.specs.Limits.{maxText}
 use Rattle.transcript_text.specs.Transcript.{listsRefusal, listsText}
-use Rattle.transcript_text.proofs.Limits.{coins-few, words-few, messages-short}
+use Rattle.transcript_text.proofs.Limits.{messages-short}
 use Rattle.transcript_text.proofs.Answers.{provable}
 
 pub lists-short : (c input cs : List ℕ) → length (listsText c input cs) ≤ maxText
@@ -24,4 +25,4 @@ lists-short c input cs =
     let p = provable c input cs e in
     let first = line-short (ascii "claim") (value c input ∷ []) in
     let others = messages-short c (rounds c) (transcript c (honest c input) cs) in
-    rw length-append (omega (arith, first, others, p .words, as-many c, coins-few c (p .legal), words-few c (p .legal))))
+    rw length-append (omega (arith, first, others, p .words, as-many c, in-limits c (p .legal) .coins, in-limits c (p .legal) .messages)))

@@ -1,14 +1,7 @@
 -- The limits of what the program `transcript` prints.
 -- Assumes nothing.
 use Prim.Native.Nat.{ℕ, _+_, _*_}
-use Rattle.circuit.specs.Limits.{maxDepth, maxExponent}
-
--- the coins of the largest circuit, one for each round, and its message words
-abbrev pub maxCoins : ℕ
-maxCoins = maxDepth * (2 * maxExponent + 1)
-
-abbrev pub maxMessageWords : ℕ
-maxMessageWords = maxDepth * (7 * maxExponent + 1)
+use Rattle.circuit.specs.Limits.{maxCoins, maxMessageWords}
 
 -- The longest text: 17 bytes for the output's line, for each round a word of at most four letters and a line's end, and for each message
 -- word a space and ten digits.

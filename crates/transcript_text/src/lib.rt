@@ -1,6 +1,6 @@
 // What the program `transcript` prints for lists: the honest transcript of a circuit, input and coins, or why there is none.
-use legality::MAX_DEPTH;
-use legality::MAX_EXPONENT;
+use layout::MAX_DEPTH;
+use layout::MAX_EXPONENT;
 use prover::Proved;
 ghost use mathlib.Core.Path.{_≡_};
 ghost use lib.ListN.{length};
@@ -12,9 +12,9 @@ ghost use Rattle.text.specs.Wrote.{Wrote};
 ghost use Rattle.transcript_text.specs.Transcript.{wordOf, messagesText, proofText, listsText};
 
 // The coins and message words of the largest circuit.
-const MAX_COINS: usize = MAX_DEPTH as usize * (2 * MAX_EXPONENT as usize + 1);
+const MAX_COINS: usize = MAX_DEPTH * (2 * MAX_EXPONENT as usize + 1);
 
-const MAX_MESSAGE_WORDS: usize = MAX_DEPTH as usize * (7 * MAX_EXPONENT as usize + 1);
+const MAX_MESSAGE_WORDS: usize = MAX_DEPTH * (7 * MAX_EXPONENT as usize + 1);
 
 // The bytes of its printed transcript: the output's line, a word and an end for each round's, and eleven for each message word.
 pub const MAX_TEXT: usize = 17 + 5 * MAX_COINS + 11 * MAX_MESSAGE_WORDS;
@@ -44,8 +44,8 @@ fn write_messages(circuit: &[u32], messages: &[u32], text: &mut [u8]) -> usize
 {
     let mut at = 0;
     let mut to = 0;
-    for layer in 1..circuit[1] as usize + 1 {
-        for round in 0..2 * standing::exponent(circuit, layer) as usize + 1 {
+    for layer in 1..layout::depth(circuit) + 1 {
+        for round in 0..2 * layout::exponent(circuit, layer) as usize + 1 {
             let end = at + standing::message_length(circuit, layer, round);
             to += write_message(circuit, layer, round, &messages[at..end], &mut text[to..]);
             at = end;

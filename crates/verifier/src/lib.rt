@@ -31,8 +31,8 @@ fn walk(circuit: &[u32], input: &[u32], first: u32, coins: &[u32], messages: &[u
     requires { ⌜ Walkable (now circuit) (now input) (now coins) (now messages) ⌝ }
     ensures { λ r. ⌜ outcomeOf r ≡ walkFrom (now (circuit .entry)) (now (input .entry)) first (now (coins .entry)) (now (messages .entry)) ⌝ }
 {
-    let f = Field::of(circuit[0]);
-    let depth = circuit[1] as usize;
+    let f = Field::of(layout::prime(circuit));
+    let depth = layout::depth(circuit);
     let mut claim = first;
     let mut layer = 1;
     let mut n = standing::coins_before(circuit, 1);
@@ -41,7 +41,7 @@ fn walk(circuit: &[u32], input: &[u32], first: u32, coins: &[u32], messages: &[u
         if depth < layer {
             break 'walk finish(circuit, input, coins, claim);
         }
-        for round in 0..2 * standing::exponent(circuit, layer) as usize + 1 {
+        for round in 0..2 * layout::exponent(circuit, layer) as usize + 1 {
             let end = at + standing::message_length(circuit, layer, round);
             let message = &messages[at..end];
             let judged = judgement::judge(circuit, layer, round, &coins[..n], claim, message);

@@ -1,18 +1,46 @@
 -- `evaluate` meets its contract: each return is one case of its answer, and only the last writes.
 -- Assumes nothing.
-use Prim.Native.Nat.{_+_}
-use mathlib.Core.Path.{sym, ap, _∙_}
+use Prim.Native.Nat.{ℕ, _+_, _≤_}
+use mathlib.Core.Path.{_≡_, sym, ap, _∙_}
 use native.Mathlib.Omega.{arith}
-use native.Mathlib.Nat.{le-trans, le-of-eq}
-use lib.ListN.{length}
+use lib.ListN.{length, take}
 use lib.Seq.{length-take-le}
-use Rattle.refusal.specs.Number.{causeOf}
-use Rattle.circuit.proofs.Loading.{legal-lists}
-use Rattle.evaluation.proofs.Answering.{left-lists, left-short, left-values, total-values, total-room}
-use borrow.Author.Needs.{needs}
 use Rattle.lists.proofs.Buffer.{over-whole}
+use Rattle.refusal.specs.Number.{causeOf}
+use Rattle.circuit.specs.Limits.{maxValues}
+use Rattle.circuit.specs.Circuit.{valueCount}
+use Rattle.circuit.specs.Legal.{listsCause}
+use Rattle.circuit.proofs.Loading.{legal-lists}
+use Rattle.circuit.proofs.Largest.{in-limits}
+use Rattle.evaluation.proofs.Answering.{left-lists, left-short, left-values, total-values}
+use borrow.Author.Needs.{needs}
 use Rattle.evaluation.proofs.evaluate.Statement.{statement}
 use Rattle.evaluation.proofs.evaluate.Tie as tie
+
+-- behind 1 to 9, where the gates are counted
+abbrev start : tie.After-gates-before → tie.Start
+start g = g .before .before .before .before .before .before .before .before
+
+legal : (g : tie.After-gates-before) → listsCause (start g .args .circuit .now) (start g .args .input .now) ≡ 0
+legal g = sym (g .before .before .before .before .check-lists .ensures) ∙ ap causeOf (g .before .before .enum-told .given .1)
+
+abbrev total : tie.After-gates-before → ℕ
+total g = g .gates-before .result + length (start g .args .input .now)
+
+total-is : (g : tie.After-gates-before) → total g ≡ valueCount (start g .args .circuit .now)
+total-is g = total-values _ _ (start g .args .buffer .now) _ _ (legal g) (g .before .depth .ensures .0) (g .gates-before .ensures .counted)
+
+few : (g : tie.After-gates-before) → total g ≤ maxValues
+few g =
+    let most = in-limits _ (legal-lists (start g .args .circuit .now) (start g .args .input .now) (legal g) .circuit) .values in
+    omega (arith, total-is g)
+
+-- behind 10, where all values are in the array
+abbrev counted : tie.After-all-values → tie.After-gates-before
+counted v = v .before .before
+
+front : (v : tie.After-all-values) → length (take (total (counted v)) (v .all-values .result)) ≡ total (counted v)
+front v = length-take-le _ _ (omega (arith, few (counted v), v .all-values .ensures .size))
 
 check-lists-requires : tie.Need-check-lists-requires
 check-lists-requires c κs = search needs
@@ -28,98 +56,46 @@ returns c =
 enum-told : tie.Need-enum-told
 enum-told c = search needs
 
-gate-count-requires : tie.Need-gate-count-requires
-gate-count-requires c κs = search needs
+depth-requires : tie.Need-depth-requires
+depth-requires c κs = search needs
+
+gates-before-requires : tie.Need-gates-before-requires
+gates-before-requires c κs = search needs
 
 add-total : tie.Need-add-total
-add-total c =
-    let told = c .before in
-    let at = told .before .before in
-    let a = at .before .before .before .before .args in
-    let l = a .circuit .now in
-    let v = a .input .now in
-    let none = sym (at .check-lists .ensures) ∙ ap causeOf (told .enum-told .given .1) in
-    let legal = legal-lists l v none in
-    let total = total-values l v (a .buffer .now) (c .gate-count .result) (c .gate-count .ensures (legal .circuit .sized .headed)) legal in
-    let room = total-room l v (a .buffer .now) legal in
-    omega arith
+add-total c = let most = few c in omega arith
 
 returns-2 : tie.Need-returns-2
 returns-2 c =
-    let told = c .before .before in
-    let at = told .before .before in
-    let a = at .before .before .before .before .args in
-    let l = a .circuit .now in
-    let v = a .input .now in
-    let none = sym (at .check-lists .ensures) ∙ ap causeOf (told .enum-told .given .1) in
-    let legal = legal-lists l v none in
-    let total = total-values l v (a .buffer .now) (c .before .gate-count .result) (c .before .gate-count .ensures (legal .circuit .sized .headed)) legal in
-    let room = total-room l v (a .buffer .now) legal in
-    left-short l v (a .buffer .now) none (omega arith)
+    let g = c .before in
+    left-short _ _ _ (legal g) (omega (arith, c .if1 .taken, total-is g))
 
 all-values-requires : tie.Need-all-values-requires
-all-values-requires c κs =
-    let told = c .before .before in
-    let at = told .before .before in
-    let a = at .before .before .before .before .args in
-    let l = a .circuit .now in
-    let v = a .input .now in
-    let none = sym (at .check-lists .ensures) ∙ ap causeOf (told .enum-told .given .1) in
-    let legal = legal-lists l v none in
-    (legal .circuit, legal .sized)
+all-values-requires c κs = legal (c .before)
 
 array-share-prefix-values : tie.Need-array-share-prefix-values
 array-share-prefix-values c =
-    let told = c .before .before .before .before in
-    let at = told .before .before in
-    let a = at .before .before .before .before .args in
-    let l = a .circuit .now in
-    let v = a .input .now in
-    let none = sym (at .check-lists .ensures) ∙ ap causeOf (told .enum-told .given .1) in
-    let legal = legal-lists l v none in
-    let total = total-values l v (a .buffer .now) (c .before .before .before .gate-count .result) (c .before .before .before .gate-count .ensures (legal .circuit .sized .headed)) legal in
-    let room = total-room l v (a .buffer .now) legal in
-    omega (arith, c .before .all-values .ensures .size)
+    let v = c .before in
+    omega (arith, few (counted v), v .all-values .ensures .size)
 
 slice-aggregate-put : tie.Need-slice-aggregate-put
-slice-aggregate-put c =
-    let told = c .before .before .before .before .before in
-    let at = told .before .before in
-    let a = at .before .before .before .before .args in
-    let l = a .circuit .now in
-    let v = a .input .now in
-    let none = sym (at .check-lists .ensures) ∙ ap causeOf (told .enum-told .given .1) in
-    let legal = legal-lists l v none in
-    let total = total-values l v (a .buffer .now) (c .before .before .before .before .gate-count .result) (c .before .before .before .before .gate-count .ensures (legal .circuit .sized .headed)) legal in
-    let room = total-room l v (a .buffer .now) legal in
-    let size = c .before .before .all-values .ensures .size in
-    sym (length-take-le _ _ (omega arith))
+slice-aggregate-put c = sym (front (c .before .before))
 
 put-requires : tie.Need-put-requires
 put-requires c κs = search needs
 
-array-read-t20 : tie.Need-array-read-t20
-array-read-t20 c = search needs
+array-read-t21 : tie.Need-array-read-t21
+array-read-t21 c = search needs
 
 same-length : tie.Need-same-length
 same-length c = search needs
 
 returns-3 : tie.Need-returns-3
 returns-3 c =
-    let told = c .before .before .before .before .before .before .before .before in
-    let at = told .before .before in
-    let a = at .before .before .before .before .args in
-    let l = a .circuit .now in
-    let v = a .input .now in
-    let none = sym (at .check-lists .ensures) ∙ ap causeOf (told .enum-told .given .1) in
-    let legal = legal-lists l v none in
-    let total = total-values l v (a .buffer .now) (c .before .before .before .before .before .before .before .gate-count .result) (c .before .before .before .before .before .before .before .gate-count .ensures (legal .circuit .sized .headed)) legal in
-    let room = total-room l v (a .buffer .now) legal in
-    let done = left-values l v (a .buffer .now) _ _ none legal total (c .before .before .before .before .before .before .if1 .left) (c .before .before .before .before .before .all-values .ensures) in
-    let size = c .before .before .before .before .before .all-values .ensures .size in
-    let count = c .before .before .before .before .before .before .before .gate-count .result + length v in
-    let fits = le-trans (le-of-eq (length-take-le count (c .before .before .before .before .before .all-values .result) (omega arith))) (c .before .before .before .before .before .before .if1 .left) in
-    record { answer = done .answer; buffer = over-whole _ (a .buffer .now) _ fits (c .before .before .put .ensures) ∙ done .buffer }
+    let v = c .before .before .before .before .before in
+    let g = counted v in
+    let done = left-values _ _ (start g .args .buffer .now) (total g) (v .all-values .result) (legal g) (total-is g) (v .before .if1 .left) (v .all-values .ensures) in
+    record { answer = done .answer; buffer = over-whole (take (total g) (v .all-values .result)) (start g .args .buffer .now) _ (omega (arith, front v, v .before .if1 .left)) (c .before .before .put .ensures) ∙ done .buffer }
 
 pub evaluate-spec : {M : Type 1} → statement M
 evaluate-spec =
@@ -129,13 +105,14 @@ evaluate-spec =
     enum-known-checked
     returns
     enum-told
-    gate-count-requires
+    depth-requires
+    gates-before-requires
     add-total
     returns-2
     all-values-requires
     array-share-prefix-values
     slice-aggregate-put
     put-requires
-    array-read-t20
+    array-read-t21
     same-length
     returns-3)

@@ -1,24 +1,40 @@
 -- `fill_layer` meets its contract: i values stand over the front, and the next layer's are untouched behind them.
 -- Assumes nothing.
-use Prim.Native.Nat.{_≤_, _-_}
+use Prim.Native.Nat.{ℕ, _+_, _-_, _*_, _≤_, _<_}
 use mathlib.Core.Path.{_≡_, _∙_}
-use borrow.Author.Needs.{needs}
 use native.Mathlib.Omega.{arith}
-use lib.ListN.{length, take, length-set}
+use lib.ListN.{length, getD, take, length-set}
 use Rattle.lists.specs.Buffer.{over}
 use Rattle.lists.proofs.Buffer.{over-all}
 use Rattle.field.specs.Modulus.{modulus, numbers}
 use Rattle.evaluation.specs.Layer.{layerValues}
-use Rattle.evaluation.proofs.Filling.{length-layer, fill-step, wires-below}
+use Rattle.evaluation.proofs.Filling.{length-layer, fill-step, wires-in}
+use borrow.Author.Needs.{needs}
 use Rattle.evaluation.proofs.fill_layer.Statement.{statement}
 use Rattle.evaluation.proofs.fill_layer.Tie as tie
 
 abbrev Inv-loop : tie.InvT-loop
-Inv-loop f gates count next values₀ i₀ values i =
+Inv-loop f gates count values₀ i₀ values i =
     (i ≤ count) × (values ≡ over (take i (layerValues (numbers f) count gates values₀)) values₀) × (length values ≡ length values₀)
 
 abbrev μ-loop : tie.MeasureT-loop
-μ-loop f gates count next values₀ i₀ values i = count - i
+μ-loop f gates count values₀ i₀ values i = count - i
+
+-- a turn of the loop: both wires of its gate are in the array
+abbrev Turn : Type 0
+Turn = tie.In-loop Inv-loop μ-loop
+
+abbrev start : Turn → tie.Start Inv-loop μ-loop
+start t = t .before .before .before .before
+
+abbrev wire : Turn → ℕ → ℕ
+wire t i = start t .args .count + getD (start t .args .gates .now) (3 * t .before .loop .i + i) 0
+
+wires : (t : Turn) → (wire t 1 < length (t .before .loop .values)) × (wire t 2 < length (t .before .loop .values))
+wires t =
+    let a = start t .args in
+    let w = wires-in (a .count) (length (a .values .now)) (a .count) (t .before .loop .i) (a .gates .now) (start t .pre .wired) (t .loop-test .taken) in
+    (omega (arith, w .0, t .before .loop .inv .2), omega (arith, w .1, t .before .loop .inv .2))
 
 loop-holds : tie.Need-loop-holds Inv-loop μ-loop
 loop-holds c = search needs
@@ -36,40 +52,16 @@ shared-slice-read-x : tie.Need-shared-slice-read-x Inv-loop μ-loop
 shared-slice-read-x c = search needs
 
 cast-x : tie.Need-cast-x Inv-loop μ-loop
-cast-x c =
-    let at = c .before .before in
-    let a = at .before .before .before .args in
-    let h = at .before .before .before .pre in
-    let i = at .loop .i in
-    let w = wires-below (a .next) (a .count) i (a .gates .now) (h .legal) (search needs) in
-    omega (arith, w .0, w .1, h .room)
+cast-x c = let w = wires (c .before) in omega arith
 
 add-x-2 : tie.Need-add-x-2 Inv-loop μ-loop
-add-x-2 c =
-    let at = c .before .before in
-    let a = at .before .before .before .args in
-    let h = at .before .before .before .pre in
-    let i = at .loop .i in
-    let w = wires-below (a .next) (a .count) i (a .gates .now) (h .legal) (search needs) in
-    omega (arith, w .0, w .1, h .room)
+add-x-2 c = let w = wires (c .before) in omega arith
 
 mul-x-2 : tie.Need-mul-x-2 Inv-loop μ-loop
-mul-x-2 c =
-    let at = c .before .before in
-    let a = at .before .before .before .args in
-    let h = at .before .before .before .pre in
-    let i = at .loop .i in
-    let w = wires-below (a .next) (a .count) i (a .gates .now) (h .legal) (search needs) in
-    omega (arith, w .0, w .1, h .room)
+mul-x-2 c = let w = wires (c .before) in omega arith
 
 slice-read-x : tie.Need-slice-read-x Inv-loop μ-loop
-slice-read-x c =
-    let at = c .before .before .before in
-    let a = at .before .before .before .args in
-    let h = at .before .before .before .pre in
-    let i = at .loop .i in
-    let w = wires-below (a .next) (a .count) i (a .gates .now) (h .legal) (search needs) in
-    omega (arith, w .0, w .1, h .room)
+slice-read-x c = let w = wires (c .before .before) in omega arith
 
 add-y : tie.Need-add-y Inv-loop μ-loop
 add-y c = search needs
@@ -81,40 +73,16 @@ shared-slice-read-y : tie.Need-shared-slice-read-y Inv-loop μ-loop
 shared-slice-read-y c = search needs
 
 cast-y : tie.Need-cast-y Inv-loop μ-loop
-cast-y c =
-    let at = c .before .before .before .before in
-    let a = at .before .before .before .args in
-    let h = at .before .before .before .pre in
-    let i = at .loop .i in
-    let w = wires-below (a .next) (a .count) i (a .gates .now) (h .legal) (search needs) in
-    omega (arith, w .0, w .1, h .room)
+cast-y c = let w = wires (c .before .before .before) in omega arith
 
 add-y-2 : tie.Need-add-y-2 Inv-loop μ-loop
-add-y-2 c =
-    let at = c .before .before .before .before in
-    let a = at .before .before .before .args in
-    let h = at .before .before .before .pre in
-    let i = at .loop .i in
-    let w = wires-below (a .next) (a .count) i (a .gates .now) (h .legal) (search needs) in
-    omega (arith, w .0, w .1, h .room)
+add-y-2 c = let w = wires (c .before .before .before) in omega arith
 
 mul-y-2 : tie.Need-mul-y-2 Inv-loop μ-loop
-mul-y-2 c =
-    let at = c .before .before .before .before in
-    let a = at .before .before .before .args in
-    let h = at .before .before .before .pre in
-    let i = at .loop .i in
-    let w = wires-below (a .next) (a .count) i (a .gates .now) (h .legal) (search needs) in
-    omega (arith, w .0, w .1, h .room)
+mul-y-2 c = let w = wires (c .before .before .before) in omega arith
 
 slice-read-y : tie.Need-slice-read-y Inv-loop μ-loop
-slice-read-y c =
-    let at = c .before .before .before .before .before in
-    let a = at .before .before .before .args in
-    let h = at .before .before .before .pre in
-    let i = at .loop .i in
-    let w = wires-below (a .next) (a .count) i (a .gates .now) (h .legal) (search needs) in
-    omega (arith, w .0, w .1, h .room)
+slice-read-y c = let w = wires (c .before .before .before .before) in omega arith
 
 mul-gate-value : tie.Need-mul-gate-value Inv-loop μ-loop
 mul-gate-value c = search needs
@@ -139,15 +107,13 @@ loop-less c = search needs
 
 loop-again : tie.Need-loop-again Inv-loop μ-loop
 loop-again c =
-    let at = c .before .before .before .before .before .before .before in
-    let a = at .before .before .before .args in
-    let h = at .before .before .before .pre in
-    let i = at .loop .i in
-    let w = wires-below (a .next) (a .count) i (a .gates .now) (h .legal) (search needs) in (
+    let t = c .before .before .before .before .before .before in
+    let a = start t .args in
+    let at = t .before .loop in (
       search needs,
-      fill-step (modulus (a .f)) (a .count) (a .gates .now) (a .values .now) (at .loop .values) i (c .gate-value .result) (search needs)
-          (omega (arith, h .room)) (at .loop .inv .1) (c .gate-value .ensures),
-      length-set (at .loop .values) i (c .gate-value .result) ∙ at .loop .inv .2,
+      fill-step (modulus (a .f)) (a .count) (a .gates .now) (a .values .now) (at .values) (at .i) (c .gate-value .result) (t .loop-test .taken)
+          (start t .pre .room) (at .inv .1) (c .gate-value .ensures),
+      length-set (at .values) (at .i) (c .gate-value .result) ∙ at .inv .2,
     )
 
 same-length : tie.Need-same-length Inv-loop μ-loop

@@ -5,15 +5,32 @@ use mathlib.Core.Path.{_≡_, sym, ap, _∙_}
 use mathlib.Core.Bool.{true}
 use Rattle.algebra.specs.Numbers.{words}
 use Rattle.algebra.specs.Polynomial.{valueAt}
+use Rattle.field.specs.Modulus.{modulus}
+use Rattle.circuit.specs.Circuit.{primeOf}
+use Rattle.circuit.specs.Sized.{LegalCircuit}
 use Rattle.circuit.proofs.Layers.{prime-modulus}
 use Rattle.protocol.specs.Rounds.{place, isLine}
+use Rattle.protocol.specs.Judge.{messageAt}
 use Rattle.judgement.proofs.Judging.{at-line, compared-line, compared-sum}
 use borrow.Author.Needs.{needs}
 use Rattle.judgement.proofs.compared.Statement.{statement}
 use Rattle.judgement.proofs.compared.Tie as tie
 
-shared-slice-read-of : tie.Need-shared-slice-read-of
-shared-slice-read-of c = search needs
+-- where the message has its two values, modulo the circuit's prime
+abbrev start : tie.After-value-at2 → tie.Start
+start v = v .before .before .before .before .before .before .before
+
+prime : (v : tie.After-value-at2) → LegalCircuit (start v .args .circuit .now) → modulus (v .before .before .of .result) ≡ primeOf (start v .args .circuit .now)
+prime v h = prime-modulus (start v .args .circuit .now) h _ _ (v .before .before .before .prime .ensures) (v .before .before .of .ensures)
+
+at-zero : (v : tie.After-value-at2) → LegalCircuit (start v .args .circuit .now) → v .before .value-at .result ≡ messageAt (start v .args .circuit .now) (start v .args .message .now) 0
+at-zero v h = v .before .value-at .ensures ∙ ap (λ (p : ℕ). valueAt (words p) (start v .args .message .now) 0) (prime v h)
+
+at-one : (v : tie.After-value-at2) → LegalCircuit (start v .args .circuit .now) → v .value-at2 .result ≡ messageAt (start v .args .circuit .now) (start v .args .message .now) 1
+at-one v h = v .value-at2 .ensures ∙ ap (λ (p : ℕ). valueAt (words p) (start v .args .message .now) 1) (prime v h)
+
+prime-requires : tie.Need-prime-requires
+prime-requires c κs = search needs
 
 of-requires : tie.Need-of-requires
 of-requires c κs = search needs
@@ -32,42 +49,26 @@ line-claim-requires c κs = search needs
 
 returns : tie.Need-returns
 returns c h =
-    let start = c .before .before .before .before .before .before .before .before .before .before in
-    let l = start .args .circuit .now in
-    let past = start .args .past .now in
-    let m = start .args .message .now in
-    let r = place (start .args .layer) (start .args .round) in
-    let f = prime-modulus l (h .legal) _ (c .before .before .before .before .before .of .ensures) in
-    let x = c .before .before .before .before .value-at in
-    let y = c .before .before .before .value-at2 in
-    let ex = x .ensures ∙ ap (λ (p : ℕ). valueAt (words p) m 0) f in
-    let ey = y .ensures ∙ ap (λ (p : ℕ). valueAt (words p) m 1) f in
-    let line : isLine l r ≡ true = sym (c .before .before .is-line .ensures) ∙ search needs in
-    compared-line l r past m (x .result) (y .result) (c .line-claim .result) ex ey line (c .line-claim .ensures (at-line l (start .args .layer) (start .args .round) past h line))
+    let v = c .before .before .before in
+    let a = start v .args in
+    let line : isLine (a .circuit .now) (place (a .layer) (a .round)) ≡ true = sym (c .before .before .is-line .ensures) ∙ search needs in
+    compared-line _ _ _ _ _ _ _ (at-zero v (h .legal)) (at-one v (h .legal)) line (c .line-claim .ensures (at-line _ _ _ _ h line))
 
 add-requires : tie.Need-add-requires
 add-requires c κs = search needs
 
 returns-2 : tie.Need-returns-2
 returns-2 c h =
-    let start = c .before .before .before .before .before .before .before .before .before .before in
-    let l = start .args .circuit .now in
-    let past = start .args .past .now in
-    let m = start .args .message .now in
-    let r = place (start .args .layer) (start .args .round) in
-    let f = prime-modulus l (h .legal) _ (c .before .before .before .before .before .of .ensures) in
-    let x = c .before .before .before .before .value-at in
-    let y = c .before .before .before .value-at2 in
-    let ex = x .ensures ∙ ap (λ (p : ℕ). valueAt (words p) m 0) f in
-    let ey = y .ensures ∙ ap (λ (p : ℕ). valueAt (words p) m 1) f in
-    compared-sum l r past m (x .result) (y .result) (c .add .result) ex ey (sym (c .before .before .is-line .ensures) ∙ search needs)
-    (c .add .ensures ∙ ap (λ (p : ℕ). words p .add (x .result) (y .result)) f)
+    let v = c .before .before .before in
+    let a = start v .args in
+    compared-sum _ (place (a .layer) (a .round)) (a .past .now) _ _ _ _ (at-zero v (h .legal)) (at-one v (h .legal)) (sym (c .before .before .is-line .ensures) ∙ search needs)
+    (c .add .ensures ∙ ap (λ (p : ℕ). words p .add (v .before .value-at .result) (v .value-at2 .result)) (prime v (h .legal)))
 
 pub compared-spec : {M : Type 1} → statement M
 compared-spec =
     tie.close
     (tie.spec
-    shared-slice-read-of
+    prime-requires
     of-requires
     value-at-requires
     value-at-requires-2

@@ -1,6 +1,6 @@
 -- `input_agrees` meets its contract: the row of the point holds the coordinates that the input has.
 -- Assumes nothing.
-use Prim.Native.Nat.{ℕ, _+_, _-_, min}
+use Prim.Native.Nat.{ℕ, _+_, min}
 use mathlib.Core.Path.{_≡_, sym, ap, _∙_, subst}
 use native.Mathlib.Omega.{arith}
 use lib.ListN.{length, take}
@@ -17,11 +17,8 @@ use borrow.Author.Needs.{needs}
 use Rattle.judgement.proofs.input_agrees.Statement.{statement}
 use Rattle.judgement.proofs.input_agrees.Tie as tie
 
-word-requires : tie.Need-word-requires
-word-requires c κs = search needs
-
-cast-depth : tie.Need-cast-depth
-cast-depth c = search needs
+depth-requires : tie.Need-depth-requires
+depth-requires c κs = search needs
 
 add-standing-point : tie.Need-add-standing-point
 add-standing-point c = search needs
@@ -38,8 +35,8 @@ cast-least c = search needs
 least-requires : tie.Need-least-requires
 least-requires c κs = search needs
 
-word-requires-2 : tie.Need-word-requires-2
-word-requires-2 c κs = search needs
+prime-requires : tie.Need-prime-requires
+prime-requires c κs = search needs
 
 of-requires : tie.Need-of-requires
 of-requires c κs = search needs
@@ -65,10 +62,10 @@ returns c h =
     let cs = start .args .coins .now in
     let k = c .before .before .before .before .least in
     let point = c .before .before .before .before .before .before .standing-point in
-    let deep = c .before .before .before .before .before .before .before .word .ensures in
+    let deep = c .before .before .before .before .before .before .before .depth .ensures .0 in
     let cut = k .ensures ∙ ap (λ (i : ℕ). min i maxExponent) (c .before .before .before .before .before .exponent .ensures ∙ ap (exponentAt l) deep) in
     let row = subst (λ (i : ℕ). AtLayer l (i + 1) (length cs) → Row (pointAt l (i + 1) cs) (point .result)) deep (point .ensures) (behind-last l v cs h) in
-    let f = prime-modulus l (legal l v cs h) _ (c .before .before .of .ensures ∙ ap (λ (p : ℕ). p - 1) (c .before .before .before .word2 .ensures)) in
+    let f = prime-modulus l (legal l v cs h) _ _ (c .before .before .before .prime .ensures) (c .before .before .of .ensures) in
     agrees l v cs h (k .result) (c .extend .result) (start .args .claim) (point .result) cut row
     (c .extend .ensures ∙ ap (λ (p : ℕ). halving (words p) v (take (k .result) (point .result))) f)
 
@@ -76,14 +73,13 @@ pub input-agrees-spec : {M : Type 1} → statement M
 input-agrees-spec =
     tie.close
     (tie.spec
-    word-requires
-    cast-depth
+    depth-requires
     add-standing-point
     standing-point-requires
     exponent-requires
     cast-least
     least-requires
-    word-requires-2
+    prime-requires
     of-requires
     array-share-prefix-point
     slice-aggregate-extend

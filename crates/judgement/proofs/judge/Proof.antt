@@ -1,101 +1,85 @@
 -- `judge` meets its contract: refusal by refusal.
 -- Assumes nothing.
-use mathlib.Core.Path.{sym, _∙_}
-use native.Mathlib.Omega.{arith}
+use Prim.Native.Nat.{ℕ}
+use mathlib.Core.Path.{_≡_, sym, ap, _∙_}
+use mathlib.Core.Bool.{Bool, true}
+use lib.ListN.{length}
+use Rattle.circuit.specs.Circuit.{primeOf}
+use Rattle.circuit.specs.Legal.{allBelow}
 use Rattle.circuit.proofs.Loading.{not-true, not-false}
 use Rattle.protocol.specs.Rounds.{place}
+use Rattle.protocol.specs.Judge.{messageLength}
 use Rattle.judgement.proofs.Judging.{judge-length, judge-word, judge-passes, judge-line, judge-sum}
 use borrow.Author.Needs.{needs}
 use Rattle.judgement.proofs.judge.Statement.{statement}
 use Rattle.judgement.proofs.judge.Tie as tie
 
-returns : tie.Need-returns
-returns c h = absurd (let long = h .legal .sized .headed .long in omega (arith, long, c .if1 .taken))
+-- behind 14: the message has its length
+abbrev start : tie.Else1 → tie.Start
+start e = e .before .before .before .before .before
+
+fits : (e : tie.Else1) → length (start e .args .message .now) ≡ messageLength (start e .args .circuit .now) (place (start e .args .layer) (start e .args .round))
+fits e = e .if1 .left ∙ e .before .message-length .ensures
+
+-- at 15: what is said of its words
+abbrev sized : tie.After-all-below → tie.Else1
+sized w = w .before .before
+
+below : (w : tie.After-all-below) → allBelow (primeOf (start (sized w) .args .circuit .now)) (start (sized w) .args .message .now) ≡ w .all-below .result
+below w = sym (ap (λ (p : ℕ). allBelow p (start (sized w) .args .message .now)) (w .before .prime .ensures)) ∙ sym (w .all-below .ensures)
+
+small : (e : tie.Else2) → allBelow (primeOf (start (sized (e .before)) .args .circuit .now)) (start (sized (e .before)) .args .message .now) ≡ true
+small e = below (e .before) ∙ not-false (e .if2 .left)
 
 message-length-requires : tie.Need-message-length-requires
 message-length-requires c κs = search needs
 
-returns-2 : tie.Need-returns-2
-returns-2 c h =
-    let start = c .before .before .before .before .before .before in
-    let l = start .args .circuit .now in
-    let past = start .args .past .now in
-    let m = start .args .message .now in
-    let r = place (start .args .layer) (start .args .round) in
-    let claim = start .args .claim in
-    sym (judge-length l r past claim m (λ e. c .if2 .taken (e ∙ sym (c .before .message-length .ensures))))
+returns : tie.Need-returns
+returns c h = sym (judge-length _ _ _ _ _ (λ e. c .if1 .taken (e ∙ sym (c .before .message-length .ensures))))
 
-shared-slice-read-all-below : tie.Need-shared-slice-read-all-below
-shared-slice-read-all-below c = search needs
+prime-requires : tie.Need-prime-requires
+prime-requires c κs = search needs
 
 all-below-requires : tie.Need-all-below-requires
 all-below-requires c κs = search needs
 
-returns-3 : tie.Need-returns-3
-returns-3 c h =
-    let start = c .before .before .before .before .before .before .before .before .before in
-    let l = start .args .circuit .now in
-    let past = start .args .past .now in
-    let m = start .args .message .now in
-    let r = place (start .args .layer) (start .args .round) in
-    let claim = start .args .claim in
-    let fits = c .before .before .before .if2 .left ∙ c .before .before .before .before .message-length .ensures in
-    sym (judge-word l r past claim m fits (sym (c .before .all-below .ensures) ∙ not-true (c .if3 .taken)))
+returns-2 : tie.Need-returns-2
+returns-2 c h = let w = c .before in sym (judge-word _ _ _ _ _ (fits (sized w)) (below w ∙ not-true (c .if2 .taken)))
 
 compared-requires : tie.Need-compared-requires
 compared-requires c κs = search needs
 
-returns-4 : tie.Need-returns-4
-returns-4 c h =
-    let start = c .before .before .before .before .before .before .before .before .before .before .before in
-    let l = start .args .circuit .now in
-    let past = start .args .past .now in
-    let m = start .args .message .now in
-    let r = place (start .args .layer) (start .args .round) in
-    let claim = start .args .claim in
-    let fits = c .before .before .before .before .before .if2 .left ∙ c .before .before .before .before .before .before .message-length .ensures in
-    let small = sym (c .before .before .before .all-below .ensures) ∙ not-false (c .before .before .if3 .left) in
-    sym (judge-passes l r past claim m fits small (sym (c .before .compared .ensures h) ∙ c .if4 .taken))
+returns-3 : tie.Need-returns-3
+returns-3 c h =
+    let e = c .before .before in
+    sym (judge-passes _ _ _ _ _ (fits (sized (e .before))) (small e) (sym (c .before .compared .ensures h) ∙ c .if3 .taken))
 
 is-line-requires : tie.Need-is-line-requires
 is-line-requires c κs = search needs
 
+returns-4 : tie.Need-returns-4
+returns-4 c h =
+    let d = c .before .before in
+    let e = d .before .before in
+    sym (judge-line _ _ _ _ _ (fits (sized (e .before))) (small e) (λ q. d .if3 .left (d .before .compared .ensures h ∙ q)) (sym (c .before .is-line .ensures) ∙ search needs))
+
 returns-5 : tie.Need-returns-5
 returns-5 c h =
-    let start = c .before .before .before .before .before .before .before .before .before .before .before .before .before in
-    let l = start .args .circuit .now in
-    let past = start .args .past .now in
-    let m = start .args .message .now in
-    let r = place (start .args .layer) (start .args .round) in
-    let claim = start .args .claim in
-    let fits = c .before .before .before .before .before .before .before .if2 .left ∙ c .before .before .before .before .before .before .before .before .message-length .ensures in
-    let small = sym (c .before .before .before .before .before .all-below .ensures) ∙ not-false (c .before .before .before .before .if3 .left) in
-    sym (judge-line l r past claim m fits small (λ e. c .before .before .if4 .left (c .before .before .before .compared .ensures h ∙ e)) (sym (c .before .is-line .ensures) ∙ search needs))
-
-returns-6 : tie.Need-returns-6
-returns-6 c h =
-    let start = c .before .before .before .before .before .before .before .before .before .before .before .before .before in
-    let l = start .args .circuit .now in
-    let past = start .args .past .now in
-    let m = start .args .message .now in
-    let r = place (start .args .layer) (start .args .round) in
-    let claim = start .args .claim in
-    let fits = c .before .before .before .before .before .before .before .if2 .left ∙ c .before .before .before .before .before .before .before .before .message-length .ensures in
-    let small = sym (c .before .before .before .before .before .all-below .ensures) ∙ not-false (c .before .before .before .before .if3 .left) in
-    sym (judge-sum l r past claim m fits small (λ e. c .before .before .if4 .left (c .before .before .before .compared .ensures h ∙ e)) (sym (c .before .is-line .ensures) ∙ search needs))
+    let d = c .before .before in
+    let e = d .before .before in
+    sym (judge-sum _ _ _ _ _ (fits (sized (e .before))) (small e) (λ q. d .if3 .left (d .before .compared .ensures h ∙ q)) (sym (c .before .is-line .ensures) ∙ search needs))
 
 pub judge-spec : {M : Type 1} → statement M
 judge-spec =
     tie.close
     (tie.spec
-    returns
     message-length-requires
-    returns-2
-    shared-slice-read-all-below
+    returns
+    prime-requires
     all-below-requires
-    returns-3
+    returns-2
     compared-requires
-    returns-4
+    returns-3
     is-line-requires
-    returns-5
-    returns-6)
+    returns-4
+    returns-5)

@@ -1,9 +1,9 @@
 -- `line_claim` meets its contract: what stands at the round gives the gates above, the standing point and the two points.
 -- Assumes nothing.
-use Prim.Native.Nat.{ℕ, _-_}
+use Prim.Native.Nat.{ℕ, _≤_}
 use mathlib.Core.Path.{_≡_, sym, ap, _∙_}
 use native.Mathlib.Omega.{arith}
-use lib.ListN.{length, take, drop}
+use lib.ListN.{length, take}
 use lib.Seq.{length-take-le}
 use Rattle.algebra.specs.Numbers.{words}
 use Rattle.circuit.specs.Limits.{maxExponent}
@@ -14,6 +14,13 @@ use Rattle.judgement.proofs.Lines.{stood, line-claim}
 use borrow.Author.Needs.{needs}
 use Rattle.judgement.proofs.line_claim.Statement.{statement}
 use Rattle.judgement.proofs.line_claim.Tie as tie
+
+-- what stands at the round: its point has the coordinates
+fits : (s : tie.After-at-round) → s .at-round .result .above ≤ length (s .at-round .result .point)
+fits s =
+    let ok = s .at-round .ok in
+    let size : length (s .at-round .result .point) ≡ maxExponent = search needs in
+    omega (arith, size, s .at-round .ensures .0 .above)
 
 exponent-requires : tie.Need-exponent-requires
 exponent-requires c κs = search needs
@@ -27,53 +34,35 @@ mul-round c = search needs
 at-round-requires : tie.Need-at-round-requires
 at-round-requires c κs = search needs
 
-shared-slice-read-of : tie.Need-shared-slice-read-of
-shared-slice-read-of c = search needs
+prime-requires : tie.Need-prime-requires
+prime-requires c κs = search needs
 
 of-requires : tie.Need-of-requires
 of-requires c κs = search needs
 
-mul-combined : tie.Need-mul-combined
-mul-combined c = search needs
-
-sub-combined : tie.Need-sub-combined
-sub-combined c = search needs
-
-part-combined-start : tie.Need-part-combined-start
-part-combined-start c = search needs
-
-part-combined-end : tie.Need-part-combined-end
-part-combined-end c = search needs
+gates-above-requires : tie.Need-gates-above-requires
+gates-above-requires c κs = search needs
 
 array-share-prefix-point : tie.Need-array-share-prefix-point
-array-share-prefix-point c =
-    let stood = c .before .before .before .before .before .before .at-round in
-    let ok = stood .ok in
-    let size : length (stood .result .point) ≡ maxExponent = search needs in
-    omega (arith, size, stood .ensures .0 .above)
+array-share-prefix-point c = let room = fits (c .before .before .before .before .before .before) in omega arith
 
 slice-aggregate-combined : tie.Need-slice-aggregate-combined
-slice-aggregate-combined c =
-    let stood = c .before .before .before .before .before .before .before .at-round in
-    let ok = stood .ok in
-    let size : length (stood .result .point) ≡ maxExponent = search needs in
-    sym (length-take-le _ _ (omega (arith, size, stood .ensures .0 .above)))
+slice-aggregate-combined c = sym (length-take-le _ _ (fits (c .before .before .before .before .before .before .before)))
 
 combined-requires : tie.Need-combined-requires
 combined-requires c κs = search needs
 
 returns : tie.Need-returns
 returns c h =
-    let own = c .before .before .before .before .before .before .before .before in
-    let start = own .before .before .before .before in
-    let l = start .args .circuit .now in
-    let past = start .args .past .now in
+    let gates = c .before .before in
+    let own = gates .before .before .before .before .before .before in
+    let a = own .before .before .before .before .args in
     let st = own .at-round .result in
-    let t = stood l (start .args .layer) (own .before .exponent .result) past st h (own .before .exponent .ensures) (own .at-round .ensures .1) in
-    let f = prime-modulus l (h .legal) _ (c .before .before .before .of .ensures) in
-    line-claim l (start .args .layer) past h st t (start .args .x) (start .args .y) (c .combined .result)
+    let t = stood (a .circuit .now) (a .layer) (own .before .exponent .result) (a .past .now) st h (own .before .exponent .ensures) (own .at-round .ensures .1) in
+    let f = prime-modulus (a .circuit .now) (h .legal) _ _ (gates .before .before .prime .ensures) (gates .before .of .ensures) in
+    line-claim (a .circuit .now) (a .layer) (a .past .now) h st t (gates .gates-above .result .now) (gates .gates-above .ensures) (a .x) (a .y) (c .combined .result)
     (c .combined .ensures
-    ∙ ap (λ (p : ℕ). combined (words p) (gatesIn (take (st .to - st .from) (drop (st .from) l))) (take (st .above) (st .point)) (take (st .own) (st .u)) (take (st .own) (st .v)) (start .args .x) (start .args .y)) f)
+    ∙ ap (λ (p : ℕ). combined (words p) (gatesIn (gates .gates-above .result .now)) (take (st .above) (st .point)) (take (st .own) (st .u)) (take (st .own) (st .v)) (a .x) (a .y)) f)
 
 pub line-claim-spec : {M : Type 1} → statement M
 line-claim-spec =
@@ -83,12 +72,9 @@ line-claim-spec =
     cast-round
     mul-round
     at-round-requires
-    shared-slice-read-of
+    prime-requires
     of-requires
-    mul-combined
-    sub-combined
-    part-combined-start
-    part-combined-end
+    gates-above-requires
     array-share-prefix-point
     slice-aggregate-combined
     combined-requires

@@ -1,35 +1,32 @@
 -- `check_gates` meets its contract: what is left from gate i on decides as all the gates do.
 -- Assumes nothing.
 use Prim.Native.Nat.{ℕ, _≤_, _-_, _+_, _*_}
-use mathlib.Core.Path.{_≡_, sym, ap, ap₂, _∙_}
-use native.Mathlib.Nat.{sub-zero, add-zero}
-use Rattle.refusal.specs.Number.{causeOf}
-use borrow.Author.Needs.{needs}
+use mathlib.Core.Path.{_≡_, sym, ap, _∙_}
+use native.Mathlib.Nat.{sub-zero}
 use lib.ListN.{drop}
+use Rattle.refusal.specs.Number.{causeOf}
 use Rattle.refusal.proofs.Order.{refused-first, legal-first}
 use Rattle.circuit.specs.Circuit.{gatesOf}
 use Rattle.circuit.specs.Legal.{gatesCause}
 use Rattle.circuit.proofs.Legal.{gates-at, gates-end}
+use borrow.Author.Needs.{needs}
 use Rattle.legality.proofs.check_gates.Statement.{statement}
 use Rattle.legality.proofs.check_gates.Tie as tie
 
 abbrev Inv-loop : tie.InvT-loop
-Inv-loop circuit at count next i₀ i =
-    (i ≤ count) × (gatesCause next (gatesOf count (drop at circuit)) ≡ gatesCause next (gatesOf (count - i) (drop (at + 3 * i) circuit)))
+Inv-loop gates count next i₀ i =
+    (i ≤ count) × (gatesCause next (gatesOf count gates) ≡ gatesCause next (gatesOf (count - i) (drop (3 * i) gates)))
 
 abbrev μ-loop : tie.MeasureT-loop
-μ-loop circuit at count next i₀ i = count - i
+μ-loop gates count next i₀ i = count - i
 
 loop-holds : tie.Need-loop-holds Inv-loop μ-loop
 loop-holds c =
     let a = c .before .args in
-    (search needs, ap₂ (λ (n k : ℕ). gatesCause (a .next) (gatesOf n (drop k (a .circuit .now)))) (sym (sub-zero (a .count))) (sym (add-zero (a .at))))
+    (search needs, ap (λ (n : ℕ). gatesCause (a .next) (gatesOf n (a .gates .now))) (sym (sub-zero (a .count))))
 
-mul-place : tie.Need-mul-place Inv-loop μ-loop
-mul-place c = search needs
-
-add-place : tie.Need-add-place Inv-loop μ-loop
-add-place c = search needs
+mul-g : tie.Need-mul-g Inv-loop μ-loop
+mul-g c = search needs
 
 mul-check-gate : tie.Need-mul-check-gate Inv-loop μ-loop
 mul-check-gate c = search needs
@@ -63,11 +60,12 @@ enum-known-checked c = search needs
 
 returns : tie.Need-returns Inv-loop μ-loop
 returns c =
-    let at = c .before .before .before .before .before .before .before .before in
+    let told = c .before in
+    let at = told .before .before .before .before .before .before .before in
     let a = at .before .before .args in
-    let checked = c .before .checked .given in
-    sym (at .loop .inv .1 ∙ gates-at (a .next) (a .count) (at .loop .i) (a .at) (a .circuit .now) (search needs)
-    ∙ refused-first (checked .0 .0) _ _ (sym (ap causeOf (checked .1)) ∙ c .before .before .before .check-gate .ensures))
+    let checked = told .checked .given in
+    sym (at .loop .inv .1 ∙ gates-at (a .next) (a .count) (at .loop .i) (a .gates .now) (search needs)
+    ∙ refused-first (checked .0 .0) _ _ (sym (ap causeOf (checked .1)) ∙ told .before .before .check-gate .ensures))
 
 enum-told : tie.Need-enum-told Inv-loop μ-loop
 enum-told c = search needs
@@ -83,7 +81,7 @@ loop-again c =
     let at = c .before .before .before .before .before .before .before in
     let a = at .before .before .args in (
       search needs,
-      at .loop .inv .1 ∙ gates-at (a .next) (a .count) (at .loop .i) (a .at) (a .circuit .now) (search needs)
+      at .loop .inv .1 ∙ gates-at (a .next) (a .count) (at .loop .i) (a .gates .now) (search needs)
           ∙ legal-first _ _ (sym (ap causeOf (c .enum-told .given .1)) ∙ c .before .before .check-gate .ensures),
     )
 
@@ -99,8 +97,7 @@ check-gates-spec =
     Inv-loop
     μ-loop
     loop-holds
-    mul-place
-    add-place
+    mul-g
     mul-check-gate
     shared-slice-read-check-gate
     add-check-gate

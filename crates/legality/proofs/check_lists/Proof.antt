@@ -1,12 +1,33 @@
 -- `check_lists` meets its contract: each return is one case of `listsCause`.
 -- Assumes nothing.
-use mathlib.Core.Path.{sym, ap, _∙_}
-use native.Mathlib.Omega.{arith}
+use Prim.Native.Nat.{ℕ}
+use mathlib.Core.Path.{_≡_, sym, ap, _∙_}
+use lib.ListN.{length}
 use Rattle.refusal.specs.Number.{causeOf}
+use Rattle.circuit.specs.Circuit.{primeOf, inputCount}
+use Rattle.circuit.specs.Legal.{allBelow, loadAnswer}
 use Rattle.circuit.proofs.Loading.{not-true, not-false, legal-circuit, lists-load, lists-count, lists-word, lists-legal}
 use borrow.Author.Needs.{needs}
 use Rattle.legality.proofs.check_lists.Statement.{statement}
 use Rattle.legality.proofs.check_lists.Tie as tie
+
+-- behind 1 to 7: the circuit is legal
+abbrev start : tie.After-enum-told → tie.Start
+start t = t .before .before .before .before .before
+
+legal : (t : tie.After-enum-told) → loadAnswer (start t .args .circuit .now) ≡ 0
+legal t = sym (t .before .before .load .ensures) ∙ ap causeOf (t .enum-told .given .1)
+
+-- behind 8: the input has its count
+abbrev told : tie.Else1 → tie.After-enum-told
+told n = n .before .before
+
+count : (n : tie.Else1) → length (start (told n) .args .input .now) ≡ inputCount (start (told n) .args .circuit .now)
+count n = n .if1 .left ∙ n .before .input-count .ensures
+
+-- at 9: what is said of its words
+below : (b : tie.After-all-below) → allBelow (primeOf (start (told (b .before .before)) .args .circuit .now)) (start (told (b .before .before)) .args .input .now) ≡ b .all-below .result
+below b = sym (ap (λ (p : ℕ). allBelow p (start (told (b .before .before)) .args .input .now)) (b .before .prime .ensures)) ∙ sym (b .all-below .ensures)
 
 load-requires : tie.Need-load-requires
 load-requires c κs = search needs
@@ -16,59 +37,38 @@ enum-known-loaded c = search needs
 
 returns : tie.Need-returns
 returns c =
-    let at = c .before .before .before in
     let told = c .before .loaded .given in
-    sym (lists-load _ _ (told .0 .0) (sym (ap causeOf (told .1)) ∙ at .load .ensures))
+    sym (lists-load _ _ (told .0 .0) (sym (ap causeOf (told .1)) ∙ c .before .before .before .load .ensures))
 
 enum-told : tie.Need-enum-told
 enum-told c = search needs
 
 input-count-requires : tie.Need-input-count-requires
-input-count-requires c κs =
-    let told = c in
-    let at = told .before .before in
-    let a = at .before .before .before .args in
-    let legal = sym (at .load .ensures) ∙ ap causeOf (told .enum-told .given .1) in
-    legal-circuit (a .circuit .now) legal
+input-count-requires c κs = legal-circuit _ (legal c)
 
 returns-2 : tie.Need-returns-2
 returns-2 c =
-    let told = c .before .before in
-    let at = told .before .before in
-    let a = at .before .before .before .args in
-    let legal = sym (at .load .ensures) ∙ ap causeOf (told .enum-told .given .1) in
-    sym (lists-count (a .circuit .now) (a .input .now) legal (λ e. c .if1 .taken (e ∙ sym (c .before .input-count .ensures))))
+    let t = c .before .before in
+    let a = start t .args in
+    sym (lists-count (a .circuit .now) (a .input .now) (legal t) (λ e. c .if1 .taken (e ∙ sym (c .before .input-count .ensures))))
 
-shared-slice-read-all-below : tie.Need-shared-slice-read-all-below
-shared-slice-read-all-below c =
-    let told = c .before .before .before in
-    let at = told .before .before in
-    let a = at .before .before .before .args in
-    let legal = sym (at .load .ensures) ∙ ap causeOf (told .enum-told .given .1) in
-    omega (arith, legal-circuit (a .circuit .now) legal .sized .headed .long)
+prime-requires : tie.Need-prime-requires
+prime-requires c κs = search needs
 
 all-below-requires : tie.Need-all-below-requires
 all-below-requires c κs = search needs
 
 returns-3 : tie.Need-returns-3
 returns-3 c =
-    let e1 = c .before .before .before in
-    let told = e1 .before .before in
-    let at = told .before .before in
-    let a = at .before .before .before .args in
-    let legal = sym (at .load .ensures) ∙ ap causeOf (told .enum-told .given .1) in
-    let count = e1 .if1 .left ∙ e1 .before .input-count .ensures in
-    sym (lists-word (a .circuit .now) (a .input .now) legal count (sym (c .before .all-below .ensures) ∙ not-true (c .if2 .taken)))
+    let n = c .before .before .before in
+    let a = start (told n) .args in
+    sym (lists-word (a .circuit .now) (a .input .now) (legal (told n)) (count n) (below (c .before) ∙ not-true (c .if2 .taken)))
 
 returns-4 : tie.Need-returns-4
 returns-4 c =
-    let e1 = c .before .before .before in
-    let told = e1 .before .before in
-    let at = told .before .before in
-    let a = at .before .before .before .args in
-    let legal = sym (at .load .ensures) ∙ ap causeOf (told .enum-told .given .1) in
-    let count = e1 .if1 .left ∙ e1 .before .input-count .ensures in
-    sym (lists-legal (a .circuit .now) (a .input .now) legal count (sym (c .before .all-below .ensures) ∙ not-false (c .if2 .left)))
+    let n = c .before .before .before in
+    let a = start (told n) .args in
+    sym (lists-legal (a .circuit .now) (a .input .now) (legal (told n)) (count n) (below (c .before) ∙ not-false (c .if2 .left)))
 
 pub check-lists-spec : {M : Type 1} → statement M
 check-lists-spec =
@@ -80,7 +80,7 @@ check-lists-spec =
     enum-told
     input-count-requires
     returns-2
-    shared-slice-read-all-below
+    prime-requires
     all-below-requires
     returns-3
     returns-4)

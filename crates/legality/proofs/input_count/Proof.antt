@@ -1,25 +1,20 @@
-use Rattle.circuit.proofs.Sized.{last-width}
--- `input_count` meets its contract: k_D is the last of the exponents.
+-- `input_count` meets its contract: the input is as wide as layer D.
 -- Assumes nothing.
-use mathlib.Core.Path.{_∙_}
+use Prim.Native.Nat.{ℕ, _^_}
+use mathlib.Core.Path.{ap, _∙_}
+use native.Mathlib.Nat.{le-refl}
+use Rattle.circuit.specs.Circuit.{exponentAt, widthOf}
+use Rattle.circuit.specs.Circuit.{depth as depthOf}
+use Rattle.circuit.proofs.Sized.{exponent-width, layer-of, last-exponent}
 use borrow.Author.Needs.{needs}
 use Rattle.legality.proofs.input_count.Statement.{statement}
 use Rattle.legality.proofs.input_count.Tie as tie
 
-shared-slice-read-depth : tie.Need-shared-slice-read-depth
-shared-slice-read-depth c = search needs
+depth-requires : tie.Need-depth-requires
+depth-requires c κs = search needs
 
-cast-depth : tie.Need-cast-depth
-cast-depth c = search needs
-
-add-width : tie.Need-add-width
-add-width c = search needs
-
-mul-width : tie.Need-mul-width
-mul-width c = search needs
-
-shared-slice-read-width : tie.Need-shared-slice-read-width
-shared-slice-read-width c = search needs
+exponent-requires : tie.Need-exponent-requires
+exponent-requires c κs = search needs
 
 width-requires : tie.Need-width-requires
 width-requires c κs = search needs
@@ -27,16 +22,9 @@ width-requires c κs = search needs
 returns : tie.Need-returns
 returns c =
     let start = c .before .before .before .before in
-    c .width .ensures ∙ last-width (start .args .circuit .now) (start .pre)
+    let l = start .args .circuit .now in
+    c .width .ensures ∙ ap widthOf (c .before .exponent .ensures ∙ ap (exponentAt l) (c .before .before .depth .ensures .0))
+    ∙ exponent-width l (depthOf l) (layer-of l (start .pre) (depthOf l) (le-refl (depthOf l))) ∙ ap (λ (k : ℕ). 2 ^ k) (last-exponent l (start .pre))
 
 pub input-count-spec : {M : Type 1} → statement M
-input-count-spec =
-    tie.close
-    (tie.spec
-    shared-slice-read-depth
-    cast-depth
-    add-width
-    mul-width
-    shared-slice-read-width
-    width-requires
-    returns)
+input-count-spec = tie.close (tie.spec depth-requires exponent-requires width-requires returns)

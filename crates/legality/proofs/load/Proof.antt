@@ -1,77 +1,106 @@
 -- `load` meets its contract: each return is one case of `loadAnswer`, tried in its order.
 -- Assumes nothing.
-use mathlib.Core.Path.{sym, ap, _∙_}
+use Prim.Native.Nat.{ℕ, _+_}
+use mathlib.Core.Path.{_≡_, sym, ap, _∙_}
+use mathlib.Core.Bool.{true}
+use mathlib.Core.List.{List}
 use native.Mathlib.Omega.{arith}
-use Prim.Native.Nat.{_+_}
-use Rattle.circuit.specs.Limits.{maxExponent}
+use lib.Dec.{leb}
+use lib.ListN.{length}
+use Rattle.primes.specs.Prime.{isListed}
+use Rattle.circuit.specs.Limits.{headerWords, maxExponent}
+use Rattle.circuit.specs.Circuit.{primeOf, exponents, wordCount}
 use Rattle.circuit.specs.Legal.{allBelow}
-use Rattle.circuit.proofs.Sized.{count-small}
-use Rattle.circuit.proofs.Loading.{not-true, not-false, load-short, load-prime, load-flat, load-deep, load-ends, load-wide, load-count, load-gates, headed, count-words, exponents-part}
+use Rattle.circuit.specs.Sized.{Exponents}
+use Rattle.circuit.proofs.Loading.{Ranged, not-true, not-false, load-short, load-prime, load-flat, load-deep, load-ends, load-wide, load-count, load-gates}
 use borrow.Author.Needs.{needs}
 use Rattle.legality.proofs.load.Statement.{statement}
 use Rattle.legality.proofs.load.Tie as tie
 
-returns : tie.Need-returns
-returns c = sym (load-short (c .before .before .args .circuit .now) (c .if1 .taken))
+-- behind 1: the list has its header
+abbrev list : tie.Else1 → List ℕ
+list h = h .before .before .before .args .circuit .now
 
-shared-slice-read-is-listed : tie.Need-shared-slice-read-is-listed
-shared-slice-read-is-listed c = search needs
+two : (h : tie.Else1) → leb headerWords (length (list h)) ≡ true
+two h = sym (h .before .has-header .ensures) ∙ not-false (h .if1 .left)
+
+-- behind 2: its prime is listed
+abbrev header : tie.Else2 → tie.Else1
+header p = p .before .before .before
+
+listed : (p : tie.Else2) → isListed (primeOf (list (header p))) ≡ true
+listed p = sym (ap isListed (p .before .before .prime .ensures)) ∙ sym (p .before .is-listed .ensures) ∙ not-false (p .if2 .left)
+
+-- behind 3: its depth is in range
+abbrev prime : tie.Else4 → tie.Else2
+prime d = d .before .before .before
+
+abbrev known : tie.Else4 → List ℕ
+known d = list (header (prime d))
+
+ranged : (d : tie.Else4) → Ranged (known d)
+ranged d =
+    let deep = d .before .before .depth .ensures .0 in
+    record {
+      headed = two (header (prime d));
+      listed = listed (prime d);
+      low = omega (arith, deep, d .before .if3 .left);
+      high = omega (arith, deep, d .if4 .left);
+    }
+
+-- behind 4: its exponents are there, and small
+abbrev range : tie.Else6 → tie.Else4
+range x = x .before .before .before .before
+
+headed : (x : tie.Else6) → Exponents (known (range x))
+headed x =
+    let there = x .before .before .before .exponents .ensures in
+    record {
+      shallow = ranged (range x) .high;
+      whole = sym (ap length there) ∙ x .before .before .if5 .left ∙ range x .before .before .depth .ensures .0;
+      small = sym (ap (allBelow (maxExponent + 1)) there) ∙ sym (x .before .all-below .ensures) ∙ not-false (x .if6 .left);
+    }
+
+counted : (w : tie.Else7) → length (known (range (w .before .before))) ≡ wordCount (known (range (w .before .before)))
+counted w = w .if7 .left ∙ w .before .word-count .ensures (headed (w .before .before))
+
+has-header-requires : tie.Need-has-header-requires
+has-header-requires c κs = search needs
+
+returns : tie.Need-returns
+returns c = sym (load-short (c .before .before .before .args .circuit .now) (sym (c .before .has-header .ensures) ∙ not-true (c .if1 .taken)))
+
+prime-requires : tie.Need-prime-requires
+prime-requires c κs = search needs
 
 is-listed-requires : tie.Need-is-listed-requires
 is-listed-requires c κs = search needs
 
 returns-2 : tie.Need-returns-2
 returns-2 c =
-    let e1 = c .before .before .before in
-    sym (load-prime (e1 .before .before .args .circuit .now) (e1 .if1 .left) (sym (c .before .is-listed .ensures) ∙ not-true (c .if2 .taken)))
+    let h = c .before .before .before in
+    sym (load-prime (list h) (two h) (sym (ap isListed (c .before .before .prime .ensures)) ∙ sym (c .before .is-listed .ensures) ∙ not-true (c .if2 .taken)))
 
-shared-slice-read-d : tie.Need-shared-slice-read-d
-shared-slice-read-d c = search needs
+depth-requires : tie.Need-depth-requires
+depth-requires c κs = search needs
 
 returns-3 : tie.Need-returns-3
 returns-3 c =
-    let s3 = c .before in
-    let e2 = s3 .before in
-    let e1 = e2 .before .before .before in
-    let l = e1 .before .before .args .circuit .now in
-    let listed = sym (e2 .before .is-listed .ensures) ∙ not-false (e2 .if2 .left) in
-    sym (load-flat l (e1 .if1 .left) listed (c .if3 .taken))
+    let p = c .before .before in
+    sym (load-flat (list (header p)) (two (header p)) (listed p) (omega (arith, c .if3 .taken, c .before .depth .ensures .0)))
 
 returns-4 : tie.Need-returns-4
 returns-4 c =
-    let e3 = c .before in
-    let s3 = e3 .before in
-    let e2 = s3 .before in
-    let e1 = e2 .before .before .before in
-    let l = e1 .before .before .args .circuit .now in
-    let listed = sym (e2 .before .is-listed .ensures) ∙ not-false (e2 .if2 .left) in
-    sym (load-deep l (e1 .if1 .left) listed (c .if4 .taken))
+    let p = c .before .before .before in
+    sym (load-deep (list (header p)) (two (header p)) (listed p) (omega (arith, c .if4 .taken, c .before .before .depth .ensures .0)))
 
-cast-depth : tie.Need-cast-depth
-cast-depth c = search needs
-
-add-start : tie.Need-add-start
-add-start c = search needs
+exponents-requires : tie.Need-exponents-requires
+exponents-requires c κs = search needs
 
 returns-5 : tie.Need-returns-5
 returns-5 c =
-    let e4 = c .before in
-    let e3 = e4 .before in
-    let s3 = e3 .before in
-    let e2 = s3 .before in
-    let e1 = e2 .before .before .before in
-    let l = e1 .before .before .args .circuit .now in
-    let listed = sym (e2 .before .is-listed .ensures) ∙ not-false (e2 .if2 .left) in
-    sym (load-ends l (e1 .if1 .left) listed (e3 .if3 .left) (e4 .if4 .left) (c .if5 .taken))
-
-sub-all-below : tie.Need-sub-all-below
-sub-all-below c = search needs
-
-part-all-below-start : tie.Need-part-all-below-start
-part-all-below-start c = search needs
-
-part-all-below-end : tie.Need-part-all-below-end
-part-all-below-end c = search needs
+    let d = c .before .before in
+    sym (load-ends (known d) (ranged d) (λ e. c .if5 .taken (ap length (c .before .exponents .ensures) ∙ e ∙ sym (d .before .before .depth .ensures .0))))
 
 add-all-below : tie.Need-add-all-below
 add-all-below c = search needs
@@ -81,120 +110,44 @@ all-below-requires c κs = search needs
 
 returns-6 : tie.Need-returns-6
 returns-6 c =
-    let e5 = c .before .before .before in
-    let e4 = e5 .before in
-    let e3 = e4 .before in
-    let s3 = e3 .before in
-    let e2 = s3 .before in
-    let e1 = e2 .before .before .before in
-    let l = e1 .before .before .args .circuit .now in
-    let listed = sym (e2 .before .is-listed .ensures) ∙ not-false (e2 .if2 .left) in
-    sym (load-wide l (e1 .if1 .left) listed (e3 .if3 .left) (e4 .if4 .left) (sym (ap (allBelow (maxExponent + 1)) (exponents-part l)) ∙ sym (c .before .all-below .ensures) ∙ not-true (c .if6 .taken)))
+    let d = c .before .before .before .before in
+    sym (load-wide (known d) (ranged d)
+    (sym (ap (allBelow (maxExponent + 1)) (c .before .before .before .exponents .ensures)) ∙ sym (c .before .all-below .ensures) ∙ not-true (c .if6 .taken)))
 
-gate-count-requires : tie.Need-gate-count-requires
-gate-count-requires c κs = search needs
-
-mul-if7 : tie.Need-mul-if7
-mul-if7 c =
-    let e6 = c .before in
-    let e5 = e6 .before .before .before in
-    let e4 = e5 .before in
-    let e3 = e4 .before in
-    let s3 = e3 .before in
-    let e2 = s3 .before in
-    let e1 = e2 .before .before .before in
-    let l = e1 .before .before .args .circuit .now in
-    let listed = sym (e2 .before .is-listed .ensures) ∙ not-false (e2 .if2 .left) in
-    let small = sym (ap (allBelow (maxExponent + 1)) (exponents-part l)) ∙ sym (e6 .before .all-below .ensures) ∙ not-false (e6 .if6 .left) in
-    let h = headed l (e1 .if1 .left) listed (e3 .if3 .left) (e4 .if4 .left) (e5 .if5 .left) small in
-    omega (arith, c .gate-count .ensures h, count-small l _ h)
-
-add-if7 : tie.Need-add-if7
-add-if7 c =
-    let e6 = c .before in
-    let e5 = e6 .before .before .before in
-    let e4 = e5 .before in
-    let e3 = e4 .before in
-    let s3 = e3 .before in
-    let e2 = s3 .before in
-    let e1 = e2 .before .before .before in
-    let l = e1 .before .before .args .circuit .now in
-    let listed = sym (e2 .before .is-listed .ensures) ∙ not-false (e2 .if2 .left) in
-    let small = sym (ap (allBelow (maxExponent + 1)) (exponents-part l)) ∙ sym (e6 .before .all-below .ensures) ∙ not-false (e6 .if6 .left) in
-    let h = headed l (e1 .if1 .left) listed (e3 .if3 .left) (e4 .if4 .left) (e5 .if5 .left) small in
-    omega (arith, c .gate-count .ensures h, count-small l _ h, h .shallow)
+word-count-requires : tie.Need-word-count-requires
+word-count-requires c κs = search needs
 
 returns-7 : tie.Need-returns-7
 returns-7 c =
-    let e6 = c .before .before in
-    let e5 = e6 .before .before .before in
-    let e4 = e5 .before in
-    let e3 = e4 .before in
-    let s3 = e3 .before in
-    let e2 = s3 .before in
-    let e1 = e2 .before .before .before in
-    let l = e1 .before .before .args .circuit .now in
-    let listed = sym (e2 .before .is-listed .ensures) ∙ not-false (e2 .if2 .left) in
-    let small = sym (ap (allBelow (maxExponent + 1)) (exponents-part l)) ∙ sym (e6 .before .all-below .ensures) ∙ not-false (e6 .if6 .left) in
-    let h = headed l (e1 .if1 .left) listed (e3 .if3 .left) (e4 .if4 .left) (e5 .if5 .left) small in
-    sym (load-count l (e1 .if1 .left) listed (e3 .if3 .left) (e4 .if4 .left) (e5 .if5 .left) small
-    (λ e. omega (arith, c .if7 .taken, e, count-words l, c .before .gate-count .ensures h)))
+    let x = c .before .before in
+    sym (load-count (known (range x)) (ranged (range x)) (headed x) (λ e. c .if7 .taken (e ∙ sym (c .before .word-count .ensures (headed x)))))
 
 check-layers-requires : tie.Need-check-layers-requires
-check-layers-requires c κs =
-    let e6 = c .before .before in
-    let e5 = e6 .before .before .before in
-    let e4 = e5 .before in
-    let e3 = e4 .before in
-    let s3 = e3 .before in
-    let e2 = s3 .before in
-    let e1 = e2 .before .before .before in
-    let l = e1 .before .before .args .circuit .now in
-    let listed = sym (e2 .before .is-listed .ensures) ∙ not-false (e2 .if2 .left) in
-    let small = sym (ap (allBelow (maxExponent + 1)) (exponents-part l)) ∙ sym (e6 .before .all-below .ensures) ∙ not-false (e6 .if6 .left) in
-    let h = headed l (e1 .if1 .left) listed (e3 .if3 .left) (e4 .if4 .left) (e5 .if5 .left) small in
-    record { headed = h; counted = omega (arith, c .if7 .left, count-words l, c .before .gate-count .ensures h) }
+check-layers-requires c κs = record { headed = headed (c .before .before); counted = counted c }
 
 returns-8 : tie.Need-returns-8
 returns-8 c =
-    let e6 = c .before .before .before in
-    let e5 = e6 .before .before .before in
-    let e4 = e5 .before in
-    let e3 = e4 .before in
-    let s3 = e3 .before in
-    let e2 = s3 .before in
-    let e1 = e2 .before .before .before in
-    let l = e1 .before .before .args .circuit .now in
-    let listed = sym (e2 .before .is-listed .ensures) ∙ not-false (e2 .if2 .left) in
-    let small = sym (ap (allBelow (maxExponent + 1)) (exponents-part l)) ∙ sym (e6 .before .all-below .ensures) ∙ not-false (e6 .if6 .left) in
-    let h = headed l (e1 .if1 .left) listed (e3 .if3 .left) (e4 .if4 .left) (e5 .if5 .left) small in
-    c .check-layers .ensures
-    ∙ sym (load-gates l (e1 .if1 .left) listed (e3 .if3 .left) (e4 .if4 .left) (e5 .if5 .left) small
-    (omega (arith, c .before .if7 .left, count-words l, c .before .before .gate-count .ensures h)))
+    let x = c .before .before .before in
+    c .check-layers .ensures ∙ sym (load-gates (known (range x)) (ranged (range x)) (headed x) (counted (c .before)))
 
 pub load-spec : {M : Type 1} → statement M
 load-spec =
     tie.close
     (tie.spec
+    has-header-requires
     returns
-    shared-slice-read-is-listed
+    prime-requires
     is-listed-requires
     returns-2
-    shared-slice-read-d
+    depth-requires
     returns-3
     returns-4
-    cast-depth
-    add-start
+    exponents-requires
     returns-5
-    sub-all-below
-    part-all-below-start
-    part-all-below-end
     add-all-below
     all-below-requires
     returns-6
-    gate-count-requires
-    mul-if7
-    add-if7
+    word-count-requires
     returns-7
     check-layers-requires
     returns-8)

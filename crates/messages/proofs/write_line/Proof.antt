@@ -1,6 +1,6 @@
 -- `write_line` meets its contract: what stands at the round gives the two points of the line.
 -- Assumes nothing.
-use Prim.Native.Nat.{ℕ, _+_, _-_, _≤_}
+use Prim.Native.Nat.{ℕ, _+_, _≤_}
 use mathlib.Core.Path.{_≡_, sym, ap, _∙_, subst}
 use native.Mathlib.Omega.{arith}
 use lib.ListN.{length, take}
@@ -21,8 +21,8 @@ use Rattle.messages.proofs.write_line.Tie as tie
 at-round-requires : tie.Need-at-round-requires
 at-round-requires c κs = search needs
 
-word-requires : tie.Need-word-requires
-word-requires c κs = search needs
+prime-requires : tie.Need-prime-requires
+prime-requires c κs = search needs
 
 of-requires : tie.Need-of-requires
 of-requires c κs = search needs
@@ -61,7 +61,7 @@ returns c h il =
     let r = place (start .args .layer) (start .args .round) in
     let n : st .own + 1 ≡ messageLength l r = ap (λ (k : ℕ). k + 1) (t .own) ∙ length-of-line l r il in
     let of = c .before .before .before .before .before .before in
-    let f = prime-modulus l (h .there .legal) _ (of .of .ensures ∙ ap (λ (p : ℕ). p - 1) (of .before .word .ensures)) in
+    let f = prime-modulus l (h .there .legal) _ _ (of .before .prime .ensures) (of .of .ensures) in
     let words = c .before .before .before .before .before .line-message in
     let said =
     line-words l (start .args .layer) (start .args .round) past vs (start .args .buffer .now) h st t il (words .result) (st .own + 1) n
@@ -73,7 +73,7 @@ write-line-spec =
     tie.close
     (tie.spec
     at-round-requires
-    word-requires
+    prime-requires
     of-requires
     line-message-requires
     add-count

@@ -6,7 +6,7 @@ use mathlib.Core.List.{List}
 use native.Mathlib.Omega.{arith}
 use lib.ListN.{length, take, drop}
 use Rattle.lists.specs.Buffer.{over}
-use Rattle.circuit.specs.Limits.{maxDepth}
+use Rattle.circuit.specs.Limits.{maxDepth, maxWidth}
 use Rattle.protocol.specs.Rounds.{place}
 use Rattle.protocol.specs.Prove.{messageFrom}
 use Rattle.messages.specs.Writing.{valuesIn, Writable}
@@ -31,7 +31,7 @@ Ready w vs = Writable (start w .args .circuit .now) (start w .args .layer) (star
 abbrev own : tie.After-width → List ℕ
 own w = valuesIn (start w .args .circuit .now) (start w .args .layer) (start w .args .values .now)
 
-small : (w : tie.After-width) → from w + w .width .result ≤ 256 * maxDepth + 256
+small : (w : tie.After-width) → from w + w .width .result ≤ maxDepth * maxWidth + maxWidth
 small w = part-small _ _ _ _ _ (w .before .before .gates-before .ensures) (w .width .ensures)
 
 inside : (w : tie.After-width) → Ready w (own w) → from w + w .width .result ≤ length (start w .args .values .now)

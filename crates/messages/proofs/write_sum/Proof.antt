@@ -1,9 +1,9 @@
 -- `write_sum` meets its contract: what stands at the round gives the gates above, the standing point and the coordinates fixed so far, from which one pass over the gates makes the honest message.
 -- Assumes nothing.
-use Prim.Native.Nat.{ℕ, _-_, min}
+use Prim.Native.Nat.{ℕ, min}
 use mathlib.Core.Path.{ap, _∙_}
 use mathlib.Core.List.{[], _∷_}
-use lib.ListN.{take, drop}
+use lib.ListN.{take}
 use Rattle.algebra.specs.Numbers.{words}
 use Rattle.circuit.specs.Limits.{maxExponent}
 use Rattle.circuit.proofs.Layers.{prime-modulus}
@@ -19,23 +19,14 @@ use Rattle.messages.proofs.write_sum.Tie as tie
 at-round-requires : tie.Need-at-round-requires
 at-round-requires c κs = search needs
 
-word-requires : tie.Need-word-requires
-word-requires c κs = search needs
+prime-requires : tie.Need-prime-requires
+prime-requires c κs = search needs
 
 of-requires : tie.Need-of-requires
 of-requires c κs = search needs
 
-mul-sum-message : tie.Need-mul-sum-message
-mul-sum-message c = search needs
-
-sub-sum-message : tie.Need-sub-sum-message
-sub-sum-message c = search needs
-
-part-sum-message-start : tie.Need-part-sum-message-start
-part-sum-message-start c = search needs
-
-part-sum-message-end : tie.Need-part-sum-message-end
-part-sum-message-end c = search needs
+gates-above-requires : tie.Need-gates-above-requires
+gates-above-requires c κs = search needs
 
 sum-message-requires : tie.Need-sum-message-requires
 sum-message-requires c κs = search needs
@@ -51,35 +42,31 @@ same-length c = search needs
 
 returns : tie.Need-returns
 returns c h nl =
-    let own = c .before .before .before .before .before .before .before .before .before .before .before .before in
-    let start = own .before .before .before .before .before in
-    let l = start .args .circuit .now in
-    let past = start .args .past .now in
-    let t = own .at-round .ensures .1 (h .there) in
-    let vs = start .args .values .now in
+    let sum = c .before .before .before .before .before in
+    let gates = sum .before in
+    let own = gates .before .before .before .before .before .before in
+    let a = own .before .before .before .before .before .args in
+    let vs = a .values .now in
+    let above = gates .gates-above .result .now in
     let st = own .at-round .result in
-    let of = c .before .before .before .before .before .before .before in
-    let f = prime-modulus l (h .there .legal) _ (of .of .ensures ∙ ap (λ (p : ℕ). p - 1) (of .before .word .ensures)) in
+    let t = own .at-round .ensures .1 (h .there) in
+    let f = prime-modulus (a .circuit .now) (h .there .legal) _ _ (gates .before .before .prime .ensures) (gates .before .of .ensures) in
     let rows = st .u ∷ st .v ∷ [] in
     let k = min (st .own) maxExponent in
     let said =
-    sum-words l (start .args .layer) (start .args .round) past vs (start .args .buffer .now) h st t nl _
-    (c .before .before .before .before .before .sum-message .ensures
-    ∙ ap (λ (p : ℕ). sumByGates (words p) k (gatesIn (take (st .to - st .from) (drop (st .from) l))) (take (st .above) (st .point)) (take tableWidth vs) (fixedFirst k (start .args .round) rows) (fixedSecond k (start .args .round) rows)) f) in
-    let words = c .before .before .before .before .before .sum-message .result in
-    sum-written l (start .args .layer) (start .args .round) past vs (start .args .buffer .now) h words _ said (c .before .before .put .ensures)
+    sum-words _ (a .layer) (a .round) (a .past .now) vs (a .buffer .now) h st t nl above (gates .gates-above .ensures) _
+    (sum .sum-message .ensures
+    ∙ ap (λ (p : ℕ). sumByGates (words p) k (gatesIn above) (take (st .above) (st .point)) (take tableWidth vs) (fixedFirst k (a .round) rows) (fixedSecond k (a .round) rows)) f) in
+    sum-written _ (a .layer) (a .round) (a .past .now) vs (a .buffer .now) h (sum .sum-message .result) _ said (c .before .before .put .ensures)
 
 pub write-sum-spec : {M : Type 1} → statement M
 write-sum-spec =
     tie.close
     (tie.spec
     at-round-requires
-    word-requires
+    prime-requires
     of-requires
-    mul-sum-message
-    sub-sum-message
-    part-sum-message-start
-    part-sum-message-end
+    gates-above-requires
     sum-message-requires
     slice-aggregate-put
     put-requires

@@ -33,12 +33,18 @@ few e =
     let count = e .before .coin-count .ensures (legal (e .before .before)) in
     omega (arith, count, e .if1 .left)
 
--- after 12
+-- at 12
+abbrev counted : tie.After-all-below → tie.After-enum-told
+counted w = w .before .before .before .before
+
+below : (w : tie.After-all-below) → allBelow (primeOf (start (counted w) .args .circuit .now)) (start (counted w) .args .prefix .now) ≡ w .all-below .result
+below w = sym (ap (λ (p : ℕ). allBelow p (start (counted w) .args .prefix .now)) (w .before .prime .ensures)) ∙ sym (w .all-below .ensures)
+
 abbrev told : tie.Else2 → tie.After-enum-told
-told e = e .before .before .before .before .before
+told e = counted (e .before)
 
 residues : (e : tie.Else2) → allBelow (primeOf (start (told e) .args .circuit .now)) (start (told e) .args .prefix .now) ≡ true
-residues e = sym (e .before .all-below .ensures) ∙ not-false (e .if2 .left)
+residues e = below (e .before) ∙ not-false (e .if2 .left)
 
 check-lists-requires : tie.Need-check-lists-requires
 check-lists-requires c κs = search needs
@@ -63,11 +69,8 @@ returns-2 c =
     let count = c .before .coin-count .ensures (legal t) in
     one-count _ _ _ _ (none t) (omega (arith, count, c .if1 .taken))
 
-shared-slice-read-all-below : tie.Need-shared-slice-read-all-below
-shared-slice-read-all-below c =
-    let t = c .before .before .before in
-    let long = legal t .sized .headed .long in
-    omega arith
+prime-requires : tie.Need-prime-requires
+prime-requires c κs = search needs
 
 all-below-requires : tie.Need-all-below-requires
 all-below-requires c κs = search needs
@@ -75,7 +78,7 @@ all-below-requires c κs = search needs
 returns-3 : tie.Need-returns-3
 returns-3 c =
     let e = c .before .before .before in
-    one-word _ _ _ _ (none (e .before .before)) (few e) (sym (c .before .all-below .ensures) ∙ not-true (c .if2 .taken))
+    one-word _ _ _ _ (none (e .before .before)) (few e) (below (c .before) ∙ not-true (c .if2 .taken))
 
 place-after-requires : tie.Need-place-after-requires
 place-after-requires c κs = (legal (told c), few (c .before .before .before))
@@ -128,7 +131,7 @@ prove-one-spec =
     enum-told
     coin-count-requires
     returns-2
-    shared-slice-read-all-below
+    prime-requires
     all-below-requires
     returns-3
     place-after-requires

@@ -1,7 +1,7 @@
 -- `write_all` meets its contract: the messages of the rounds before stand over the buffer's front, and the loops end where none is left. The inner loop starts from the buffer as the outer one left it.
 -- Assumes nothing.
 use Prim.Native.Nat.{ℕ, _+_, _-_, _*_, _≤_, _<_}
-use mathlib.Core.Path.{_≡_, refl, sym, ap, _∙_, subst}
+use mathlib.Core.Path.{_≡_, sym, ap, _∙_, subst}
 use mathlib.Core.List.{List}
 use native.Mathlib.Omega.{arith}
 use lib.ListN.{length, take, drop, length-replicate}
@@ -105,34 +105,18 @@ fill-values-requires c κs = (c .before .before .before .before .before .pre .gi
 coins-before-requires : tie.Need-coins-before-requires Inv-loop2 μ-loop2 Inv-loop μ-loop
 coins-before-requires c κs = search needs
 
-shared-slice-read-layer-end : tie.Need-shared-slice-read-layer-end Inv-loop2 μ-loop2 Inv-loop μ-loop
-shared-slice-read-layer-end c =
-    let begin = c .before .before .before .before .before .before .before .before .before in
-    let headed = legal-lists (begin .args .circuit .now) (begin .args .input .now) (begin .pre .given .lists) .circuit .sized .headed in
-    let long = headed .long in
-    let flat = headed .shallow in
-    omega arith
-
-cast-layer-end : tie.Need-cast-layer-end Inv-loop2 μ-loop2 Inv-loop μ-loop
-cast-layer-end c =
-    let begin = c .before .before .before .before .before .before .before .before .before in
-    let headed = legal-lists (begin .args .circuit .now) (begin .args .input .now) (begin .pre .given .lists) .circuit .sized .headed in
-    let long = headed .long in
-    let flat = headed .shallow in
-    omega arith
+depth-requires : tie.Need-depth-requires Inv-loop2 μ-loop2 Inv-loop μ-loop
+depth-requires c κs = search needs
 
 add-layer-end : tie.Need-add-layer-end Inv-loop2 μ-loop2 Inv-loop μ-loop
-add-layer-end c =
-    let begin = c .before .before .before .before .before .before .before .before .before in
-    let headed = legal-lists (begin .args .circuit .now) (begin .args .input .now) (begin .pre .given .lists) .circuit .sized .headed in
-    let long = headed .long in
-    let flat = headed .shallow in
-    omega arith
+add-layer-end c = search needs
 
 loop-holds : tie.Need-loop-holds Inv-loop2 μ-loop2 Inv-loop μ-loop
 loop-holds c =
-    let begin = c .before .before .before .before .before .before .before .before .before in
-    (refl, all-start _ _ _ _ (begin .pre) _ (c .before .coins-before .ensures (first-layer _ _ (begin .args .coins .now) _ (begin .pre))))
+    let begin = c .before .before .before .before .before .before .before .before .before in (
+      ap (λ (n : ℕ). n + 1) (c .depth .ensures .0),
+      all-start _ _ _ _ (begin .pre) _ (c .before .coins-before .ensures (first-layer _ _ (begin .args .coins .now) _ (begin .pre))),
+    )
 
 exponent-requires : tie.Need-exponent-requires Inv-loop2 μ-loop2 Inv-loop μ-loop
 exponent-requires c κs = search needs
@@ -234,8 +218,8 @@ loop-again c =
           (subst (λ (i : ℕ). i ≤ at .loop2 .round) (at .loop2 .inv .1) (c .loop2-test .left)),
     )
 
-array-read-t15 : tie.Need-array-read-t15 Inv-loop2 μ-loop2 Inv-loop μ-loop
-array-read-t15 c = let size = held (c .before) .size in search needs
+array-read-t33 : tie.Need-array-read-t33 Inv-loop2 μ-loop2 Inv-loop μ-loop
+array-read-t33 c = let size = held (c .before) .size in search needs
 
 same-length : tie.Need-same-length Inv-loop2 μ-loop2 Inv-loop μ-loop
 same-length c = let size = as-long (c .before) in search needs
@@ -257,8 +241,7 @@ write-all-spec =
     slice-aggregate-fill-values
     fill-values-requires
     coins-before-requires
-    shared-slice-read-layer-end
-    cast-layer-end
+    depth-requires
     add-layer-end
     loop-holds
     exponent-requires
@@ -282,6 +265,6 @@ write-all-spec =
     add-layer
     loop-less
     loop-again
-    array-read-t15
+    array-read-t33
     same-length
     returns)

@@ -1,12 +1,30 @@
 -- `go_on` meets its contract: the next round, the next layer, or the last comparison.
 -- Assumes nothing.
-use mathlib.Core.Path.{refl, sym, _∙_}
+use Prim.Native.Nat.{_<_}
+use mathlib.Core.Path.{_≡_, refl, sym, _∙_}
+use mathlib.Core.Bool.{true}
 use native.Mathlib.Omega.{arith}
+use Rattle.circuit.specs.Circuit.{depth}
 use Rattle.circuit.proofs.Loading.{not-true, not-false}
-use Rattle.session.proofs.Records.{long, small-round, small-layer, goes-round, goes-layer, goes-accepted, goes-refused}
+use Rattle.protocol.specs.Rounds.{place, isLine}
+use Rattle.session.proofs.Records.{small-round, small-layer, goes-round, goes-layer, goes-accepted, goes-refused}
 use borrow.Author.Needs.{needs}
 use Rattle.session.proofs.go_on.Statement.{statement}
 use Rattle.session.proofs.go_on.Tie as tie
+
+-- where it is known whether the round is the line
+abbrev start : tie.After-is-line → tie.Start
+start i = i .before .before .before .before .before .before
+
+-- behind its line, and behind the last layer's
+line : (e : tie.Else1) → isLine (start (e .before) .args .circuit .now) (place (start (e .before) .args .session .layer) (start (e .before) .args .session .round)) ≡ true
+line e = sym (e .before .is-line .ensures) ∙ not-false (e .if1 .left)
+
+abbrev first : tie.Else2 → tie.Else1
+first l = l .before .before .before
+
+last : (l : tie.Else2) → ¬ (start (first l .before) .args .session .layer < depth (start (first l .before) .args .circuit .now))
+last l more = omega (arith, more, l .if2 .left, l .before .depth .ensures .0)
 
 cast-is-line : tie.Need-cast-is-line
 cast-is-line c = search needs
@@ -18,65 +36,35 @@ is-line-requires : tie.Need-is-line-requires
 is-line-requires c κs = search needs
 
 add-round : tie.Need-add-round
-add-round c =
-    let start = c .before .before .before .before .before .before .before .before in
-    let a = start .args in
-    let l = a .circuit .now in
-    let v = a .input .now in
-    let cs = a .coins .now in
-    let s = a .session in
-    let low = small-round l v cs s (start .pre) in
-    omega arith
+add-round c = let low = small-round _ _ _ _ (start (c .before .before) .pre) in omega arith
 
 went-on-requires : tie.Need-went-on-requires
 went-on-requires c κs = search needs
 
 returns : tie.Need-returns
 returns c =
-    let start = c .before .before .before .before .before .before .before .before .before in
-    let a = start .args in
-    let l = a .circuit .now in
-    let v = a .input .now in
-    let cs = a .coins .now in
-    let s = a .session in
-    goes-round l v cs s (start .pre) (a .coin) (a .claim) (sym (c .before .before .before .is-line .ensures) ∙ not-true (c .before .before .if1 .taken)) _ (c .went-on .ensures .0)
+    let i = c .before .before .before in
+    goes-round _ _ _ _ (start i .pre) (start i .args .coin) (start i .args .claim) (sym (i .is-line .ensures) ∙ not-true (c .before .before .if1 .taken)) _ (c .went-on .ensures .0)
     (c .went-on .ensures .1)
 
-shared-slice-read-if2 : tie.Need-shared-slice-read-if2
-shared-slice-read-if2 c =
-    let start = c .before .before .before .before .before .before .before .before in
-    let a = start .args in
-    let l = a .circuit .now in
-    let v = a .input .now in
-    let cs = a .coins .now in
-    let s = a .session in
-    let big = long l v cs s (start .pre) in
-    omega arith
+cast-if2 : tie.Need-cast-if2
+cast-if2 c = search needs
+
+depth-requires : tie.Need-depth-requires
+depth-requires c κs = search needs
 
 add-layer : tie.Need-add-layer
-add-layer c =
-    let start = c .before .before .before .before .before .before .before .before .before .before .before in
-    let a = start .args in
-    let l = a .circuit .now in
-    let v = a .input .now in
-    let cs = a .coins .now in
-    let s = a .session in
-    let low = small-layer l v cs s (start .pre) in
-    omega arith
+add-layer c = let low = small-layer _ _ _ _ (start (c .before .before .before .before .before) .pre) in omega arith
 
 went-on-requires-2 : tie.Need-went-on-requires-2
 went-on-requires-2 c κs = search needs
 
 returns-2 : tie.Need-returns-2
 returns-2 c =
-    let start = c .before .before .before .before .before .before .before .before .before .before .before .before in
-    let a = start .args in
-    let l = a .circuit .now in
-    let v = a .input .now in
-    let cs = a .coins .now in
-    let s = a .session in
-    let line = c .before .before .before .before .before in
-    goes-layer l v cs s (start .pre) (a .coin) (a .claim) (sym (line .before .is-line .ensures) ∙ not-false (line .if1 .left)) (c .before .before .if2 .taken) _ (c .went-on2 .ensures .0) (c .went-on2 .ensures .1)
+    let more = c .before .before in
+    let e = more .before .before .before in
+    let a = start (e .before) .args in
+    goes-layer _ _ _ _ (start (e .before) .pre) (a .coin) (a .claim) (line e) (omega (arith, more .if2 .taken, more .before .depth .ensures .0)) _ (c .went-on2 .ensures .0) (c .went-on2 .ensures .1)
 
 input-agrees-requires : tie.Need-input-agrees-requires
 input-agrees-requires c κs = search needs
@@ -86,27 +74,19 @@ ended-requires c κs = search needs
 
 returns-3 : tie.Need-returns-3
 returns-3 c =
-    let start = c .before .before .before .before .before .before .before .before .before .before .before .before .before in
-    let a = start .args in
-    let l = a .circuit .now in
-    let v = a .input .now in
-    let cs = a .coins .now in
-    let s = a .session in
-    let line = c .before .before .before .before .before .before in
-    goes-accepted l v cs s (start .pre) (a .coin) (a .claim) (sym (line .before .is-line .ensures) ∙ not-false (line .if1 .left)) (search needs) _ (c .before .before .ended .ensures)
-    (sym (c .before .input-agrees .ensures (start .pre .given)) ∙ search needs) refl
+    let l = c .before .before .before in
+    let e = first l in
+    let a = start (e .before) .args in
+    goes-accepted _ _ _ _ (start (e .before) .pre) (a .coin) (a .claim) (line e) (last l) _ (c .before .before .ended .ensures)
+    (sym (c .before .input-agrees .ensures (start (e .before) .pre .given)) ∙ search needs) refl
 
 returns-4 : tie.Need-returns-4
 returns-4 c =
-    let start = c .before .before .before .before .before .before .before .before .before .before .before .before .before in
-    let a = start .args in
-    let l = a .circuit .now in
-    let v = a .input .now in
-    let cs = a .coins .now in
-    let s = a .session in
-    let line = c .before .before .before .before .before .before in
-    goes-refused l v cs s (start .pre) (a .coin) (a .claim) (sym (line .before .is-line .ensures) ∙ not-false (line .if1 .left)) (search needs) _ (c .before .before .ended .ensures)
-    (sym (c .before .input-agrees .ensures (start .pre .given)) ∙ search needs) refl
+    let l = c .before .before .before in
+    let e = first l in
+    let a = start (e .before) .args in
+    goes-refused _ _ _ _ (start (e .before) .pre) (a .coin) (a .claim) (line e) (last l) _ (c .before .before .ended .ensures)
+    (sym (c .before .input-agrees .ensures (start (e .before) .pre .given)) ∙ search needs) refl
 
 pub go-on-spec : {M : Type 1} → statement M
 go-on-spec =
@@ -118,7 +98,8 @@ go-on-spec =
     add-round
     went-on-requires
     returns
-    shared-slice-read-if2
+    cast-if2
+    depth-requires
     add-layer
     went-on-requires-2
     returns-2

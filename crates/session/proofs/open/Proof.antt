@@ -1,13 +1,31 @@
 -- `open` meets its contract: refusal by refusal.
 -- Assumes nothing.
-use mathlib.Core.Path.{sym, ap, _∙_}
+use Prim.Native.Nat.{_<_}
+use mathlib.Core.Path.{_≡_, sym, ap, _∙_}
 use native.Mathlib.Omega.{arith}
 use Rattle.refusal.specs.Number.{causeOf}
+use Rattle.circuit.specs.Circuit.{primeOf}
+use Rattle.circuit.specs.Legal.{listsCause}
+use Rattle.circuit.specs.Sized.{LegalCircuit}
 use Rattle.circuit.proofs.Loading.{legal-lists}
 use Rattle.session.proofs.Opens.{open-lists, open-output, open-coins, open-opens}
 use borrow.Author.Needs.{needs}
 use Rattle.session.proofs.open.Statement.{statement}
 use Rattle.session.proofs.open.Tie as tie
+
+-- behind 1 to 9: the lists are legal
+abbrev start : tie.After-enum-told → tie.Start
+start t = t .before .before .before .before .before .before
+
+none : (t : tie.After-enum-told) → listsCause (start t .args .circuit .now) (start t .args .input .now) ≡ 0
+none t = sym (t .before .before .check-lists .ensures) ∙ ap causeOf (t .enum-told .given .1)
+
+legal : (t : tie.After-enum-told) → LegalCircuit (start t .args .circuit .now)
+legal t = legal-lists (start t .args .circuit .now) (start t .args .input .now) (none t) .circuit
+
+-- behind 13: the output is a residue
+below : (e : tie.Else1) → start (e .before .before) .args .output < primeOf (start (e .before .before) .args .circuit .now)
+below e = omega (arith, e .if1 .left, e .before .prime .ensures)
 
 check-lists-requires : tie.Need-check-lists-requires
 check-lists-requires c κs = search needs
@@ -23,28 +41,13 @@ returns c =
 enum-told : tie.Need-enum-told
 enum-told c = search needs
 
-shared-slice-read-if1 : tie.Need-shared-slice-read-if1
-shared-slice-read-if1 c =
-    let told = c .before in
-    let at = told .before .before in
-    let a = at .before .before .before .before .args in
-    let l = a .circuit .now in
-    let v = a .input .now in
-    let none = sym (at .check-lists .ensures) ∙ ap causeOf (told .enum-told .given .1) in
-    let legal = legal-lists l v none in
-    let long = legal .circuit .sized .headed .long in
-    omega arith
+prime-requires : tie.Need-prime-requires
+prime-requires c κs = search needs
 
 returns-2 : tie.Need-returns-2
 returns-2 c =
-    let told = c .before .before in
-    let at = told .before .before in
-    let a = at .before .before .before .before .args in
-    let l = a .circuit .now in
-    let v = a .input .now in
-    let none = sym (at .check-lists .ensures) ∙ ap causeOf (told .enum-told .given .1) in
-    let legal = legal-lists l v none in
-    open-output l v (a .output) (a .coins .now) none (c .if1 .taken)
+    let t = c .before .before in
+    open-output _ _ (start t .args .output) (start t .args .coins .now) (none t) (omega (arith, c .if1 .taken, c .before .prime .ensures))
 
 check-coins-requires : tie.Need-check-coins-requires
 check-coins-requires c κs = search needs
@@ -54,29 +57,20 @@ enum-known-taken c = search needs
 
 returns-3 : tie.Need-returns-3
 returns-3 c =
-    let told = c .before .before .before .before .before .before in
-    let at = told .before .before in
-    let a = at .before .before .before .before .args in
-    let l = a .circuit .now in
-    let v = a .input .now in
-    let none = sym (at .check-lists .ensures) ∙ ap causeOf (told .enum-told .given .1) in
-    let legal = legal-lists l v none in
+    let e = c .before .before .before .before in
+    let t = e .before .before in
     let said = c .before .taken .given in
-    open-coins l v (a .output) (a .coins .now) none (search needs) (said .0 .0) (sym (ap causeOf (said .1)) ∙ c .before .before .before .check-coins .ensures (legal .circuit))
+    open-coins _ _ (start t .args .output) (start t .args .coins .now) (none t) (below e) (said .0 .0)
+    (sym (ap causeOf (said .1)) ∙ c .before .before .before .check-coins .ensures (legal t))
 
 enum-told-2 : tie.Need-enum-told-2
 enum-told-2 c = search needs
 
 returns-4 : tie.Need-returns-4
 returns-4 c =
-    let told = c .before .before .before .before .before in
-    let at = told .before .before in
-    let a = at .before .before .before .before .args in
-    let l = a .circuit .now in
-    let v = a .input .now in
-    let none = sym (at .check-lists .ensures) ∙ ap causeOf (told .enum-told .given .1) in
-    let legal = legal-lists l v none in
-    open-opens l v (a .output) (a .coins .now) none (search needs) (sym (ap causeOf (c .enum-told2 .given .1)) ∙ c .before .before .check-coins .ensures (legal .circuit))
+    let e = c .before .before .before in
+    let t = e .before .before in
+    open-opens _ _ (start t .args .output) (start t .args .coins .now) (none t) (below e) (sym (ap causeOf (c .enum-told2 .given .1)) ∙ c .before .before .check-coins .ensures (legal t))
 
 pub open-spec : {M : Type 1} → statement M
 open-spec =
@@ -86,7 +80,7 @@ open-spec =
     enum-known-lists
     returns
     enum-told
-    shared-slice-read-if1
+    prime-requires
     returns-2
     check-coins-requires
     enum-known-taken

@@ -1,19 +1,37 @@
 -- `step_open` meets its contract: the coins before the round and the judgement are those of the definition.
 -- Assumes nothing.
-use Prim.Native.Nat.{ℕ, _+_}
-use mathlib.Core.Path.{refl, sym, ap, _∙_}
+use Prim.Native.Nat.{ℕ, _+_, _<_}
+use mathlib.Core.Path.{_≡_, refl, sym, ap, _∙_}
 use native.Mathlib.Omega.{arith}
-use lib.ListN.{getD}
+use lib.ListN.{length, take, getD}
 use lib.Seq.{length-take-le}
 use Rattle.algebra.specs.Numbers.{words}
 use Rattle.algebra.specs.Polynomial.{valueAt}
 use Rattle.refusal.specs.Number.{causeOf}
 use Rattle.circuit.proofs.Layers.{prime-modulus}
-use Rattle.session.proofs.Records.{own-start, legal, long}
+use Rattle.protocol.specs.Rounds.{place, layerStart, AtRound}
+use Rattle.session.proofs.Records.{own-start, legal}
 use Rattle.session.proofs.Coming.{coins-few, coin-inside, at-round, refused-open, passed-open}
 use borrow.Author.Needs.{needs}
 use Rattle.session.proofs.step_open.Statement.{statement}
 use Rattle.session.proofs.step_open.Tie as tie
+
+-- where the coins before the layer are counted: with the round, those before the message
+abbrev start : tie.After-coins-before → tie.Start
+start n = n .before .before .before .before .before .before .before
+
+abbrev number : tie.After-coins-before → ℕ
+number n = n .coins-before .result + start n .args .session .round
+
+number-is : (n : tie.After-coins-before) → number n ≡ layerStart (start n .args .circuit .now) (start n .args .session .layer) + start n .args .session .round
+number-is n = ap (λ (i : ℕ). i + start n .args .session .round) (n .coins-before .ensures (own-start _ _ _ _ (start n .pre)))
+
+inside : (n : tie.After-coins-before) → number n < length (start n .args .coins .now)
+inside n = coin-inside _ _ _ _ (start n .pre) (number n) (number-is n)
+
+spot : (n : tie.After-coins-before)
+    → AtRound (start n .args .circuit .now) (place (start n .args .session .layer) (start n .args .session .round)) (length (take (number n) (start n .args .coins .now)))
+spot n = at-round _ _ _ _ (start n .pre) (number n) (number-is n)
 
 cast-layer : tie.Need-cast-layer
 cast-layer c = search needs
@@ -25,32 +43,13 @@ coins-before-requires : tie.Need-coins-before-requires
 coins-before-requires c κs = search needs
 
 add-n : tie.Need-add-n
-add-n c =
-    let start = c .before .before .before .before .before .before .before in
-    let a = start .args in
-    let l = a .circuit .now in
-    let v = a .input .now in
-    let cs = a .coins .now in
-    let s = a .session in
-    let before = c .coins-before in
-    let n = before .result + s .round in
-    let en = ap (λ (i : ℕ). i + s .round) (before .ensures (own-start l v cs s (start .pre))) in
-    let few = coins-few l v cs s (start .pre) n en in
-    omega arith
+add-n c = let few = coins-few _ _ _ _ (start c .pre) _ (number-is c) in omega arith
 
 slice-aggregate-judge : tie.Need-slice-aggregate-judge
 slice-aggregate-judge c =
-    let start = c .before .before .before .before .before .before .before .before in
-    let a = start .args in
-    let l = a .circuit .now in
-    let v = a .input .now in
-    let cs = a .coins .now in
-    let s = a .session in
-    let before = c .before .coins-before in
-    let n = before .result + s .round in
-    let en = ap (λ (i : ℕ). i + s .round) (before .ensures (own-start l v cs s (start .pre))) in
-    let inside = coin-inside l v cs s (start .pre) n en in
-    sym (length-take-le n cs (omega arith))
+    let n = c .before in
+    let there = inside n in
+    sym (length-take-le (number n) (start n .args .coins .now) (omega arith))
 
 judge-requires : tie.Need-judge-requires
 judge-requires c κs = search needs
@@ -63,62 +62,25 @@ ended-requires c κs = search needs
 
 returns : tie.Need-returns
 returns c =
-    let start = c .before .before .before .before .before .before .before .before .before .before .before .before .before in
-    let a = start .args in
-    let l = a .circuit .now in
-    let v = a .input .now in
-    let cs = a .coins .now in
-    let s = a .session in
-    let before = c .before .before .before .before .before .before .coins-before in
-    let n = before .result + s .round in
-    let en = ap (λ (i : ℕ). i + s .round) (before .ensures (own-start l v cs s (start .pre))) in
+    let judged = c .before .before .before .before in
+    let n = judged .before .before in
     let told = c .before .before .judged .given in
-    refused-open l v cs s (start .pre) n en (a .message .now) (told .0 .0) (sym (ap causeOf (told .1)) ∙ c .before .before .before .before .judge .ensures (at-round l v cs s (start .pre) n en)) _ refl (c .ended .ensures)
+    refused-open _ _ _ _ (start n .pre) (number n) (number-is n) (start n .args .message .now) (told .0 .0) (sym (ap causeOf (told .1)) ∙ judged .judge .ensures (spot n)) _ refl (c .ended .ensures)
 
 enum-told : tie.Need-enum-told
 enum-told c = search needs
 
 mul-coin : tie.Need-mul-coin
 mul-coin c =
-    let start = c .before .before .before .before .before .before .before .before .before .before .before in
-    let a = start .args in
-    let l = a .circuit .now in
-    let v = a .input .now in
-    let cs = a .coins .now in
-    let s = a .session in
-    let before = c .before .before .before .before .coins-before in
-    let n = before .result + s .round in
-    let en = ap (λ (i : ℕ). i + s .round) (before .ensures (own-start l v cs s (start .pre))) in
-    let few = coins-few l v cs s (start .pre) n en in
+    let n = c .before .before .before .before in
+    let few = coins-few _ _ _ _ (start n .pre) _ (number-is n) in
     omega arith
 
 shared-slice-read-coin : tie.Need-shared-slice-read-coin
-shared-slice-read-coin c =
-    let start = c .before .before .before .before .before .before .before .before .before .before .before .before in
-    let a = start .args in
-    let l = a .circuit .now in
-    let v = a .input .now in
-    let cs = a .coins .now in
-    let s = a .session in
-    let before = c .before .before .before .before .before .coins-before in
-    let n = before .result + s .round in
-    let en = ap (λ (i : ℕ). i + s .round) (before .ensures (own-start l v cs s (start .pre))) in
-    let inside = coin-inside l v cs s (start .pre) n en in
-    omega arith
+shared-slice-read-coin c = let there = inside (c .before .before .before .before .before) in omega arith
 
-shared-slice-read-of : tie.Need-shared-slice-read-of
-shared-slice-read-of c =
-    let start = c .before .before .before .before .before .before .before .before .before .before .before .before .before in
-    let a = start .args in
-    let l = a .circuit .now in
-    let v = a .input .now in
-    let cs = a .coins .now in
-    let s = a .session in
-    let before = c .before .before .before .before .before .before .coins-before in
-    let n = before .result + s .round in
-    let en = ap (λ (i : ℕ). i + s .round) (before .ensures (own-start l v cs s (start .pre))) in
-    let big = long l v cs s (start .pre) in
-    omega arith
+prime-requires : tie.Need-prime-requires
+prime-requires c κs = search needs
 
 of-requires : tie.Need-of-requires
 of-requires c κs = search needs
@@ -131,20 +93,14 @@ go-on-requires c κs = search needs
 
 returns-2 : tie.Need-returns-2
 returns-2 c =
-    let start = c .before .before .before .before .before .before .before .before .before .before .before .before .before .before .before .before in
-    let a = start .args in
-    let l = a .circuit .now in
-    let v = a .input .now in
-    let cs = a .coins .now in
-    let s = a .session in
-    let before = c .before .before .before .before .before .before .before .before .before .coins-before in
-    let n = before .result + s .round in
-    let en = ap (λ (i : ℕ). i + s .round) (before .ensures (own-start l v cs s (start .pre))) in
-    let told = c .before .before .before .before .before .enum-told .given in
-    let judged = c .before .before .before .before .before .before .before .judge in
-    let f = prime-modulus l (legal l v cs s (start .pre)) _ (c .before .before .of .ensures) in
-    let y = c .before .value-at .ensures ∙ ap (λ (p : ℕ). valueAt (words p) (a .message .now) (getD cs n 0)) f in
-    passed-open l v cs s (start .pre) n en (a .message .now) (sym (judged .ensures (at-round l v cs s (start .pre) n en)) ∙ ap causeOf (told .1)) _ y _ (c .go-on .ensures)
+    let value = c .before in
+    let told = value .before .before .before .before in
+    let judged = told .before .before in
+    let n = judged .before .before in
+    let a = start n .args in
+    let f = prime-modulus _ (legal _ _ _ _ (start n .pre)) _ _ (value .before .before .prime .ensures) (value .before .of .ensures) in
+    let y = value .value-at .ensures ∙ ap (λ (p : ℕ). valueAt (words p) (a .message .now) (getD (a .coins .now) (number n) 0)) f in
+    passed-open _ _ _ _ (start n .pre) (number n) (number-is n) (a .message .now) (sym (judged .judge .ensures (spot n)) ∙ ap causeOf (told .enum-told .given .1)) _ y _ (c .go-on .ensures)
 
 pub step-open-spec : {M : Type 1} → statement M
 step-open-spec =
@@ -162,7 +118,7 @@ step-open-spec =
     enum-told
     mul-coin
     shared-slice-read-coin
-    shared-slice-read-of
+    prime-requires
     of-requires
     value-at-requires
     go-on-requires

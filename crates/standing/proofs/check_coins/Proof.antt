@@ -17,8 +17,8 @@ returns c h =
     let a = c .before .before .before .before .args in
     sym (coins-number (a .circuit .now) (a .coins .now) (λ e. c .if1 .taken (e ∙ sym (c .before .coin-count .ensures h))))
 
-word-requires : tie.Need-word-requires
-word-requires c κs = search needs
+prime-requires : tie.Need-prime-requires
+prime-requires c κs = search needs
 
 all-below-requires : tie.Need-all-below-requires
 all-below-requires c κs = search needs
@@ -28,7 +28,7 @@ returns-2 c h =
     let at = c .before .before .before in
     let a = at .before .before .before .before .args in
     let count = at .if1 .left ∙ at .before .coin-count .ensures h in
-    let told = sym (ap (λ (p : ℕ). allBelow p (a .coins .now)) (c .before .before .word .ensures)) ∙ sym (c .before .all-below .ensures) in
+    let told = sym (ap (λ (p : ℕ). allBelow p (a .coins .now)) (c .before .before .prime .ensures)) ∙ sym (c .before .all-below .ensures) in
     sym (coins-word (a .circuit .now) (a .coins .now) count (told ∙ not-true (c .if2 .taken)))
 
 returns-3 : tie.Need-returns-3
@@ -36,10 +36,10 @@ returns-3 c h =
     let at = c .before .before .before in
     let a = at .before .before .before .before .args in
     let count = at .if1 .left ∙ at .before .coin-count .ensures h in
-    let told = sym (ap (λ (p : ℕ). allBelow p (a .coins .now)) (c .before .before .word .ensures)) ∙ sym (c .before .all-below .ensures) in
+    let told = sym (ap (λ (p : ℕ). allBelow p (a .coins .now)) (c .before .before .prime .ensures)) ∙ sym (c .before .all-below .ensures) in
     sym (coins-legal (a .circuit .now) (a .coins .now) count (told ∙ not-false (c .if2 .left)))
 
 pub check-coins-spec : {M : Type 1} → statement M
 check-coins-spec =
     tie.close
-    (tie.spec coin-count-requires returns word-requires all-below-requires returns-2 returns-3)
+    (tie.spec coin-count-requires returns prime-requires all-below-requires returns-2 returns-3)

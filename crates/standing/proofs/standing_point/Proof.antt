@@ -80,8 +80,8 @@ part-row-end-2 c = search needs
 row-requires-3 : tie.Need-row-requires-3
 row-requires-3 c κs = search needs
 
-word-requires : tie.Need-word-requires
-word-requires c κs = search needs
+prime-requires : tie.Need-prime-requires
+prime-requires c κs = search needs
 
 of-requires : tie.Need-of-requires
 of-requires c κs = search needs
@@ -101,7 +101,7 @@ returns-3 c h =
     let start = at .before .before .before .before in
     let l = start .args .circuit .now in
     let past = start .args .past .now in
-    let f = prime-modulus l (h .legal) _ (c .before .before .of .ensures ∙ ap (λ (p : ℕ). p - 1) (c .before .before .before .word .ensures)) in
+    let f = prime-modulus l (h .legal) _ _ (c .before .before .before .prime .ensures) (c .before .before .of .ensures) in
     let first = c .before .before .before .before .before .before .row2 in
     let second = c .before .before .before .before .row3 in
     let line = c .line-point .ensures ∙ ap (λ (p : ℕ). linePoint (words p) (first .result) (second .result) (getD past (length past - 1) 0)) f in
@@ -133,7 +133,7 @@ standing-point-spec =
     part-row-start-2
     part-row-end-2
     row-requires-3
-    word-requires
+    prime-requires
     of-requires
     mul-line-point
     shared-slice-read-line-point

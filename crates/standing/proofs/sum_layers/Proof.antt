@@ -20,9 +20,6 @@ Inv-loop circuit first a layer sum₀ i₀ sum i =
 abbrev μ-loop : tie.MeasureT-loop
 μ-loop circuit first a layer sum₀ i₀ sum i = layer - i
 
-cast-if1 : tie.Need-cast-if1 Inv-loop μ-loop
-cast-if1 c = search needs
-
 add-if1 : tie.Need-add-if1 Inv-loop μ-loop
 add-if1 c = search needs
 
@@ -91,7 +88,6 @@ sum-layers-spec =
     (tie.spec
     Inv-loop
     μ-loop
-    cast-if1
     add-if1
     returns
     loop-holds

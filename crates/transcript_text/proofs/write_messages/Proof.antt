@@ -1,7 +1,7 @@
 -- `write_messages` meets its contract: the lines written and those left are the whole; the loops end where none is left.
 -- Assumes nothing.
 use Prim.Native.Nat.{ℕ, _+_, _-_, _*_, _≤_, _<_}
-use mathlib.Core.Path.{_≡_, refl, ap, subst}
+use mathlib.Core.Path.{_≡_, ap, subst}
 use mathlib.Core.List.{List}
 use native.Mathlib.Omega.{arith}
 use lib.ListN.{length}
@@ -64,11 +64,8 @@ fits m =
     let r = m .before .before in
     omega (arith, words-there _ _ _ (start (layer r) .pre .0) _ _ _ _ _ (here r) (more (m .before)), m .message-length .ensures)
 
-shared-slice-read-layer-end : tie.Need-shared-slice-read-layer-end Inv-loop2 μ-loop2 Inv-loop μ-loop
-shared-slice-read-layer-end c = let long = c .before .before .before .before .pre .0 .sized .headed .long in omega arith
-
-cast-layer-end : tie.Need-cast-layer-end Inv-loop2 μ-loop2 Inv-loop μ-loop
-cast-layer-end c = let long = c .before .before .before .before .pre .0 .sized .headed .long in search needs
+depth-requires : tie.Need-depth-requires Inv-loop2 μ-loop2 Inv-loop μ-loop
+depth-requires c κs = search needs
 
 add-layer-end : tie.Need-add-layer-end Inv-loop2 μ-loop2 Inv-loop μ-loop
 add-layer-end c = search needs
@@ -76,7 +73,7 @@ add-layer-end c = search needs
 loop-holds : tie.Need-loop-holds Inv-loop2 μ-loop2 Inv-loop μ-loop
 loop-holds c =
     let begin = c .before .before .before .before in
-    (refl, lines-start _ _ _ (begin .pre .0) (begin .pre .1))
+    (ap (λ (n : ℕ). n + 1) (c .depth .ensures .0), lines-start _ _ _ (begin .pre .0) (begin .pre .1))
 
 exponent-requires : tie.Need-exponent-requires Inv-loop2 μ-loop2 Inv-loop μ-loop
 exponent-requires c κs = search needs
@@ -158,7 +155,7 @@ loop-less c = search needs
 loop-again : tie.Need-loop-again Inv-loop2 μ-loop2 Inv-loop μ-loop
 loop-again c =
     let r = c .before in (
-      refl,
+      layer r .loop .inv .0,
       layer-ends _ _ _ (start (layer r) .pre .0) _ _ _ _ _ (here r)
           (subst (λ (i : ℕ). i ≤ r .loop2 .round) (r .loop2 .inv .0) (c .loop2-test .left)),
     )
@@ -179,8 +176,7 @@ write-messages-spec =
     μ-loop2
     Inv-loop
     μ-loop
-    shared-slice-read-layer-end
-    cast-layer-end
+    depth-requires
     add-layer-end
     loop-holds
     exponent-requires

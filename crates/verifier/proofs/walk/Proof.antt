@@ -34,7 +34,7 @@ Inv-walk circuit input first coins messages f depth claim₀ layer₀ n₀ at₀
 abbrev μ-walk : tie.MeasureT-walk
 μ-walk circuit input first coins messages f depth claim₀ layer₀ n₀ at₀ claim layer n at = 1 + depthOf circuit - layer
 
--- the start's circuit has its words
+-- the start's circuit is legal
 abbrev Start : Type 0
 Start = tie.Start Inv-loop μ-loop Inv-walk μ-walk
 
@@ -67,17 +67,14 @@ spot t = round-place _ _ _ _ _ (start (layer t) .pre) _ _ _ _ _ (t .before .loop
 words : (t : Turn) → t .before .loop .at + messageLength (start (layer t) .args .circuit .now) (place (layer t .walk .layer) (t .before .loop .round)) ≤ length (start (layer t) .args .messages .now)
 words t = words-there _ _ _ _ _ (start (layer t) .pre) _ _ _ _ _ (t .before .loop .inv .1) (more t)
 
-shared-slice-read-of : tie.Need-shared-slice-read-of Inv-loop μ-loop Inv-walk μ-walk
-shared-slice-read-of c = let long = legal (c .before .before .before .before .before) .sized .headed .long in omega arith
+prime-requires : tie.Need-prime-requires Inv-loop μ-loop Inv-walk μ-walk
+prime-requires c κs = search needs
 
 of-requires : tie.Need-of-requires Inv-loop μ-loop Inv-walk μ-walk
 of-requires c κs = search needs
 
-shared-slice-read-depth : tie.Need-shared-slice-read-depth Inv-loop μ-loop Inv-walk μ-walk
-shared-slice-read-depth c = let long = legal (c .before .before .before .before .before .before .before) .sized .headed .long in omega arith
-
-cast-depth : tie.Need-cast-depth Inv-loop μ-loop Inv-walk μ-walk
-cast-depth c = let long = legal (c .before .before .before .before .before .before .before) .sized .headed .long in omega (arith, c .shared-slice-known6 .given 1)
+depth-requires : tie.Need-depth-requires Inv-loop μ-loop Inv-walk μ-walk
+depth-requires c κs = search needs
 
 coins-before-requires : tie.Need-coins-before-requires Inv-loop μ-loop Inv-walk μ-walk
 coins-before-requires c κs = search needs
@@ -105,7 +102,7 @@ add-round-end c = search needs
 loop-holds : tie.Need-loop-holds Inv-loop μ-loop Inv-walk μ-walk
 loop-holds c =
     let o = c .before .before in
-    (ap (λ (k : ℕ). 2 * k + 1) (c .exponent .ensures), layer-starts _ _ _ _ _ (start o .pre) _ _ _ _ (o .walk .inv) (c .before .if1 .left))
+    (ap (λ (k : ℕ). 2 * k + 1) (c .exponent .ensures), layer-starts _ _ _ _ _ (start o .pre) _ _ _ _ (o .walk .inv) (omega (arith, c .before .if1 .left, o .before .before .depth .ensures .0)))
 
 message-length-requires : tie.Need-message-length-requires Inv-loop μ-loop Inv-walk μ-walk
 message-length-requires c κs = search needs
@@ -184,7 +181,7 @@ loop-again c =
     let o = layer t in
     let wide = c .before .before .before .before .before .before .before .message-length in
     let m = take (t .before .loop .at + wide .result - t .before .loop .at) (drop (t .before .loop .at) (start o .args .messages .now)) in
-    let f = prime-modulus _ (legal (start o)) _ (o .before .before .before .of .ensures) in
+    let f = prime-modulus _ (legal (start o)) _ _ (o .before .before .before .before .prime .ensures) (o .before .before .before .of .ensures) in
     let passed = sym (c .before .before .before .before .judge .ensures (spot t)) ∙ ap causeOf (c .before .before .enum-told .given .1) in (
       t .before .loop .inv .0,
       round-passes _ _ _ _ _ (start o .pre) _ _ _ _ _ (t .before .loop .inv .1) (more t) (wide .result) (wide .ensures) (c .value-at .result) passed
@@ -208,7 +205,7 @@ walk-again c =
 returns : tie.Need-returns Inv-loop μ-loop Inv-walk μ-walk
 returns c =
     let o = c .before .before in
-    c .finish .ensures ∙ walk-ends _ _ _ _ _ (start o .pre) _ _ _ _ (o .walk .inv) (c .before .if1 .taken)
+    c .finish .ensures ∙ walk-ends _ _ _ _ _ (start o .pre) _ _ _ _ (o .walk .inv) (omega (arith, c .before .if1 .taken, o .before .before .depth .ensures .0))
 
 returns-2 : tie.Need-returns-2 Inv-loop μ-loop Inv-walk μ-walk
 returns-2 c =
@@ -226,10 +223,9 @@ walk-spec =
     μ-loop
     Inv-walk
     μ-walk
-    shared-slice-read-of
+    prime-requires
     of-requires
-    shared-slice-read-depth
-    cast-depth
+    depth-requires
     coins-before-requires
     walk-holds
     finish-requires

@@ -7,8 +7,8 @@ use mathlib.Core.Path.{ap, _∙_}
 use native.Mathlib.Nat.{one-mul, mod-eq-of-lt, lt-of-le-of-lt}
 use lib.Dec.{lit<}
 use borrow.Author.Needs.{needs}
-use Rattle.legality.proofs.width.Statement.{statement}
-use Rattle.legality.proofs.width.Tie as tie
+use Rattle.layout.proofs.width.Statement.{statement}
+use Rattle.layout.proofs.width.Tie as tie
 
 returns : tie.Need-returns
 returns c = sym (width-none (c .before .args .k) (c .if1 .taken))

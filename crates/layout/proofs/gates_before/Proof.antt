@@ -1,35 +1,32 @@
 -- `gates_before` meets its contract: before turn i the count is of the gates of the layers before i.
 -- Assumes nothing.
 use borrow.Author.Needs.{needs}
-use Prim.Native.Nat.{ℕ, _≤_, _-_, _*_}
+use Prim.Native.Nat.{_≤_, _-_, _*_}
 use mathlib.Core.Path.{_≡_, ap, _∙_}
 use native.Mathlib.Omega.{arith}
-use lib.ListN.{take}
-use Rattle.circuit.specs.Circuit.{depth, exponents, outputExponent, gateCount}
-use Rattle.circuit.specs.Sized.{LegalCircuit}
+use Rattle.circuit.specs.Limits.{maxWidth}
+use Rattle.circuit.specs.Circuit.{gatesBefore}
+use Rattle.circuit.specs.Sized.{LayerOf}
 use Rattle.circuit.proofs.Sized.{width-small}
-use Rattle.standing.proofs.Gates.{count-none, count-turn}
-use Rattle.standing.proofs.gates_before.Statement.{statement}
-use Rattle.standing.proofs.gates_before.Tie as tie
+use Rattle.circuit.proofs.Gates.{count-none, count-turn}
+use Rattle.layout.proofs.gates_before.Statement.{statement}
+use Rattle.layout.proofs.gates_before.Tie as tie
 
 abbrev Inv-loop : tie.InvT-loop
 Inv-loop circuit layer count₀ i₀ count i =
-    (i ≤ layer) × (count ≤ 256 * i) × (LegalCircuit circuit → layer ≤ depth circuit → count ≡ gateCount (outputExponent circuit) (take i (exponents circuit)))
+    (i ≤ layer) × (count ≤ i * maxWidth) × (LayerOf circuit layer → count ≡ gatesBefore circuit i)
 
 abbrev μ-loop : tie.MeasureT-loop
 μ-loop circuit layer count₀ i₀ count i = layer - i
 
-cast-if1 : tie.Need-cast-if1 Inv-loop μ-loop
-cast-if1 c = search needs
-
 returns : tie.Need-returns Inv-loop μ-loop
 returns c = record {
   few = search needs;
-  counted = λ h n. absurd (let low = h .sized .headed .shallow in omega (arith, low, n, c .if1 .taken));
+  counted = λ h. absurd (omega (arith, h .headed .shallow, h .inside, c .if1 .taken));
 }
 
 loop-holds : tie.Need-loop-holds Inv-loop μ-loop
-loop-holds c = (search needs, search needs, λ h n. count-none (c .before .before .args .circuit .now))
+loop-holds c = (search needs, search needs, λ h. count-none (c .before .before .args .circuit .now))
 
 exponent-requires : tie.Need-exponent-requires Inv-loop μ-loop
 exponent-requires c κs = search needs
@@ -56,8 +53,8 @@ loop-again c =
     let small = width-small (c .before .exponent .result) in (
       search needs,
       omega (arith, small, c .width .ensures, at .loop .inv .1),
-      λ h n.
-          count-turn l h (at .loop .i) (at .loop .count) (c .before .exponent .result) (c .width .result) (omega arith) (at .loop .inv .2 h n)
+      λ h.
+          count-turn l (h .headed) (at .loop .i) (at .loop .count) (c .before .exponent .result) (c .width .result) (omega (arith, h .inside)) (at .loop .inv .2 h)
           (c .before .exponent .ensures) (c .width .ensures),
     )
 
@@ -69,7 +66,7 @@ returns-2 c =
     let all : at .loop .i ≡ start .args .layer = search needs in
     record {
       few = omega (arith, at .loop .inv .1, at .loop .inv .0, at .before .if1 .left);
-      counted = λ h n. at .loop .inv .2 h n ∙ ap (λ (m : ℕ). gateCount (outputExponent l) (take m (exponents l))) all;
+      counted = λ h. at .loop .inv .2 h ∙ ap (gatesBefore l) all;
     }
 
 pub gates-before-spec : {M : Type 1} → statement M
@@ -78,7 +75,6 @@ gates-before-spec =
     (tie.spec
     Inv-loop
     μ-loop
-    cast-if1
     returns
     loop-holds
     exponent-requires
