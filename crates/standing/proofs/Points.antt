@@ -22,7 +22,7 @@ use Rattle.protocol.proofs.Points.{start-next}
 use Rattle.standing.specs.Standing.{AtLayer, Row}
 
 -- the layer above, a layer of the circuit
-pub layer-above : (c : List ℕ) (layer : ℕ) (past : List ℕ) → AtLayer c layer past → LayerOf c (layer - 1)
+layer-above : (c : List ℕ) (layer : ℕ) (past : List ℕ) → AtLayer c layer past → LayerOf c (layer - 1)
 layer-above c layer past h =
     let low : layer ≤ 1 + depth c = h .last in
     record { headed = h .legal .sized .headed; inside = omega arith }
