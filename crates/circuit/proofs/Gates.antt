@@ -13,12 +13,12 @@ use Rattle.circuit.specs.Limits.{maxGates}
 use Rattle.circuit.specs.Gate.{Gate}
 use Rattle.circuit.specs.Circuit.{depth, exponents, exponentAt, outputExponent, widthOf, gatesOf, layersOf, gateCount, gatesStart, gateWords, gateLayers, gatesBefore, gatesAt, wordCount}
 use Rattle.circuit.specs.Legal.{gatesCause, layersCause}
-use Rattle.circuit.specs.Sized.{Exponents, Sized, LayerOf}
+use Rattle.circuit.specs.Sized.{Exponents, Sized}
 use Rattle.circuit.proofs.Sized.{count-few, exponent-width}
 use Rattle.circuit.proofs.Legal.{length-gates, gates-part}
 
 -- the gates of the first layers, one layer more
-pub count-more : (k : ℕ) (ks : List ℕ) (i : ℕ) → i < length ks → gateCount k (take (suc i) ks) ≡ gateCount k (take i ks) + 2 ^ getD (k ∷ ks) i 0
+count-more : (k : ℕ) (ks : List ℕ) (i : ℕ) → i < length ks → gateCount k (take (suc i) ks) ≡ gateCount k (take i ks) + 2 ^ getD (k ∷ ks) i 0
 unfolding gateCount
 count-more k [] i l = absurd (not-suc-le-zero l)
 count-more k (k′ ∷ ks) zero l = omega arith

@@ -8,7 +8,7 @@ use native.Mathlib.Omega.{arith}
 use lib.ListN.{length}
 use Rattle.lists.specs.Count.{sum}
 use Rattle.lists.proofs.Count.{sum-le, sum-const}
-use Rattle.circuit.specs.Limits.{maxDepth, maxExponent, maxValues, maxWords, maxCoins, maxMessageWords}
+use Rattle.circuit.specs.Limits.{maxDepth, maxExponent}
 use Rattle.circuit.specs.Circuit.{exponents, wordCount, valueCount, coinCount, messageWords, inputExponent}
 use Rattle.circuit.specs.Sized.{LegalCircuit}
 use Rattle.circuit.specs.Theorems.{InLimits, LegalSizes}

@@ -4,7 +4,7 @@ use Prim.Native.Nat.{ℕ, zero, suc, _+_, _-_, _*_, _≤_, _<_}
 use mathlib.Core.Path.{_≡_, refl, sym, ap, _∙_}
 use mathlib.Core.Bool.{Bool, true, false, not, _&&_, _||_, false≢true}
 use mathlib.Core.List.{List, [], _∷_}
-use native.Mathlib.Nat.{add-zero, le-of-suc-le-suc, sub-zero, suc-sub-suc}
+use native.Mathlib.Nat.{add-zero, sub-zero, suc-sub-suc}
 use native.Mathlib.Numerals.{add-one}
 use native.Mathlib.Omega.{arith}
 use lib.Dec.{ltb, leb, eqb}
@@ -12,7 +12,7 @@ use lib.ListN.{length, getD, take, drop, drop-of-length-le}
 use lib.Seq.{drop-cons, drop-drop, getD-drop, getD-take, take-nil}
 use borrow.Author.Tests.{lt-ltb, le-ltb, lt-leb, le-leb, eq-eqb, ne-eqb, ltb-true}
 use Rattle.refusal.specs.Order.{need, first}
-use Rattle.refusal.proofs.Order.{first-none, need-none}
+use Rattle.refusal.proofs.Order.{need-none}
 use Rattle.circuit.specs.Gate.{Gate, gate}
 use Rattle.circuit.specs.Circuit.{gatesOf}
 use Rattle.circuit.specs.Legal.{allBelow, wiresGood, gateCause, gatesCause}
@@ -131,12 +131,6 @@ gate-wires next g e =
       left = ltb-true (g .left) next (and-left (ltb (g .left) next) _ good);
       right = ltb-true (g .right) next (and-left (ltb (g .right) next) _ (and-right (ltb (g .left) next) _ good));
     }
-
-pub gates-wires : (next : ℕ) (gs : List Gate) (i : ℕ) (d : Gate) → gatesCause next gs ≡ 0 → i < length gs → Wires next (getD gs i d)
-unfolding gatesCause
-gates-wires next [] i d e h = absurd (omega arith)
-gates-wires next (g ∷ gs) zero d e h = gate-wires next g (first-none (gateCause next g) (gatesCause next gs) e .0)
-gates-wires next (g ∷ gs) (suc i) d e h = gates-wires next gs i d (first-none (gateCause next g) (gatesCause next gs) e .1) (le-of-suc-le-suc h)
 
 -- the gates of a part that has all their words
 pub gates-part : (n m : ℕ) (ws : List ℕ) → 3 * n ≤ m → gatesOf n (take m ws) ≡ gatesOf n ws

@@ -16,7 +16,7 @@ use Rattle.circuit.specs.Legal.{allBelow}
 use Rattle.circuit.specs.Sized.{Exponents, LegalCircuit, LayerOf}
 
 -- a list whose words are all below a bound, at a place
-pub below-each : (p : ℕ) (ws : List ℕ) (i : ℕ) → allBelow p ws ≡ true → i < length ws → getD ws i 0 < p
+below-each : (p : ℕ) (ws : List ℕ) (i : ℕ) → allBelow p ws ≡ true → i < length ws → getD ws i 0 < p
 unfolding allBelow
 below-each p [] i e h = absurd (omega arith)
 below-each p (w ∷ ws) i e h = go (ltb w p) refl e i h (λ j f g. below-each p ws j f g)

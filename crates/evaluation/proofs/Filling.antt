@@ -53,7 +53,7 @@ module _ (N : Numbers ℕ) (count : ℕ) (gates values : List ℕ) where
   unfolding layerValues
   length-layer = length-map (gatesOf count gates) (gateValue N (drop count values)) ∙ length-gates count gates
 
-pub layer-at : (p count : ℕ) (gates values : List ℕ) (i : ℕ) → i < count
+layer-at : (p count : ℕ) (gates values : List ℕ) (i : ℕ) → i < count
     → getD (layerValues (words p) count gates values) i 0
     ≡ operate (words p) (getD gates (3 * i) 0) (getD values (count + getD gates (3 * i + 1) 0) 0) (getD values (count + getD gates (3 * i + 2) 0) 0)
 unfolding layerValues gateValue

@@ -14,7 +14,7 @@ ghost use Rattle.evaluation.specs.Layer.{layerValues, AllValues, Fillabl
 ghost use Rattle.evaluation.specs.Evaluate.{Evaluates};
 
 // The gate and input words of the largest circuit.
-pub const MAX_VALUES: usize = 4097;
+pub const MAX_VALUES: usize = 1 + layout::MAX_DEPTH * (1 << layout::MAX_EXPONENT);
 
 // A gate's value from those of its wires.
 pub fn gate_value(f: Field, kind: u32, x: u32, y: u32) -> u32

@@ -49,7 +49,7 @@ module _ (c input cs : List â„•) (s : Session) (h : Fitting c input cs s) (n : â
   own-end zero low m = absurd (omega arith)
   own-end (suc l) low m = start-next c l (omega (arith, deep c (legal c input cs s h)))
 
-  pub coin-in : n < coinCount c
+  coin-in : n < coinCount c
   coin-in =
       let o = own c input cs s h in
       let reached = o .reached in

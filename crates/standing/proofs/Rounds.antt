@@ -1,6 +1,6 @@
 -- What stands at a round: the last coins, as many as the round says, are the layer's own, and those before them give the standing point.
 -- Assumes nothing.
-use Prim.Native.Nat.{ℕ, zero, suc, _+_, _-_, _*_, _/_, _^_, _≤_, _<_, min}
+use Prim.Native.Nat.{ℕ, zero, suc, _+_, _-_, _*_, _/_, _^_, _≤_, min}
 use mathlib.Core.Path.{_≡_, refl, sym, ap, ap₂, _∙_, subst}
 use mathlib.Core.List.{List}
 use native.Mathlib.Omega.{arith}
@@ -8,7 +8,7 @@ use lib.ListN.{length, length-drop, length-take, take, drop, take-append-drop}
 use lib.Seq.{drop-drop, length-take-le}
 use Rattle.circuit.specs.Limits.{maxExponent}
 use Rattle.circuit.specs.Circuit.{depth, exponents, exponentAt, gatesOf, gatesAt}
-use Rattle.circuit.specs.Sized.{LayerOf, LegalCircuit}
+use Rattle.circuit.specs.Sized.{LayerOf}
 use Rattle.circuit.proofs.Sized.{deep, exponent-small}
 use Rattle.layout.specs.Gates.{GatesAbove}
 use Rattle.summand.specs.Gates.{gatesIn}
@@ -30,7 +30,7 @@ module _ (c : List ℕ) (layer round : ℕ) (past : List ℕ) (h : AtRound c (pl
   pub own-small : exponentAt c layer ≤ maxExponent
   own-small = exponent-small c layer own-layer
 
-  pub above-layer : LayerOf c (layer - 1)
+  above-layer : LayerOf c (layer - 1)
   above-layer = let low : layer ≤ depth c = h .last in record { headed = h .legal .sized .headed; inside = omega arith }
 
   -- the layer's own coins

@@ -1,6 +1,6 @@
 -- `check_gates` meets its contract: what is left from gate i on decides as all the gates do.
 -- Assumes nothing.
-use Prim.Native.Nat.{ℕ, _≤_, _-_, _+_, _*_}
+use Prim.Native.Nat.{ℕ, _≤_, _-_, _*_}
 use mathlib.Core.Path.{_≡_, sym, ap, _∙_}
 use native.Mathlib.Nat.{sub-zero}
 use lib.ListN.{drop}

@@ -1,11 +1,10 @@
 -- `check_layers` meets its contract: what is left from a layer on decides as all the layers do.
 -- Assumes nothing.
-use Prim.Native.Nat.{ℕ, _+_, _-_, _^_, _≤_, _<_}
+use Prim.Native.Nat.{_+_, _-_, _^_, _<_}
 use mathlib.Core.Path.{_≡_, sym, ap, _∙_}
 use native.Mathlib.Omega.{arith}
 use Rattle.refusal.specs.Number.{causeOf}
 use Rattle.circuit.specs.Circuit.{depth, exponentAt, widthOf}
-use Rattle.circuit.specs.Sized.{Sized}
 use Rattle.circuit.proofs.Sized.{exponent-width}
 use Rattle.legality.proofs.Checking.{BeforeLayer, checks-start, layer-there, layer-few, layer-refused, layer-legal, checks-end}
 use borrow.Author.Needs.{needs}
