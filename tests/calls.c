@@ -1,7 +1,7 @@
 /*
  * What a C program relies on beside the answers, which the comparison in rust/compare holds against another
- * implementation: how the answers' fields lie, lists without words given as NULL, and words around a session or a
- * buffer that stay as they were.
+ * implementation: how the answers' fields lie, lists without words given as NULL, words around a session or a buffer
+ * that stay as they were, and the header's limits, which are those of the largest circuit that the library takes.
  */
 #include "../c/kidlothe.h"
 
@@ -91,8 +91,77 @@ static void test_session(void)
     expect(around[0] == MARK && around[5] == MARK, "words beside the session stay");
 }
 
+static uint32_t largest[KIDLOTHE_MAX_CIRCUIT_WORDS + 1];
+
+/* The circuit of so many layers that all have this width exponent, each gate an addition of two words, in `largest`;
+ * its word count, or 0 if it is longer than the header says. */
+static size_t build(size_t depth, size_t exponent)
+{
+    size_t words = 2 + depth + 3 * (1 + (depth - 1) * ((size_t)1 << exponent));
+    if (words > KIDLOTHE_MAX_CIRCUIT_WORDS)
+        return 0;
+    memset(largest, 0, sizeof largest);
+    largest[0] = 13;
+    largest[1] = (uint32_t)depth;
+    for (size_t i = 0; i < depth; i++)
+        largest[2 + i] = (uint32_t)exponent;
+    for (size_t at = 2 + depth; at < words; at += 3)
+        largest[at] = 1;
+    return words;
+}
+
+/* The largest depth, and the largest exponent, that Load takes. */
+static size_t deepest(void)
+{
+    size_t depth = 1;
+    while (kidlothe_load(largest, build(depth + 1, 0)) == KIDLOTHE_NONE)
+        depth += 1;
+    return depth;
+}
+
+static size_t widest(void)
+{
+    size_t exponent = 0;
+    while (kidlothe_load(largest, build(1, exponent + 1)) == KIDLOTHE_NONE)
+        exponent += 1;
+    return exponent;
+}
+
+static void test_limits(void)
+{
+    static uint32_t values[KIDLOTHE_MAX_VALUES], messages[KIDLOTHE_MAX_MESSAGE_WORDS], drawn[KIDLOTHE_MAX_COINS];
+    static const uint32_t zeros[KIDLOTHE_MAX_VALUES];
+    size_t depth = deepest(), exponent = widest(), width = (size_t)1 << exponent;
+    size_t words = build(depth, exponent);
+    expect(kidlothe_load(largest, words) == KIDLOTHE_NONE, "the largest circuit is legal");
+    expect(words == KIDLOTHE_MAX_CIRCUIT_WORDS, "its words are the header's");
+    expect(kidlothe_evaluate(largest, words, zeros, width, values, KIDLOTHE_MAX_VALUES).refusal == 0, "the header's values hold its own");
+    expect(kidlothe_evaluate(largest, words, zeros, width, values, KIDLOTHE_MAX_VALUES - 1).refusal == KIDLOTHE_BUFFER_SHORT, "one less is too short");
+    kidlothe_proof proof =
+        kidlothe_prove(largest, words, zeros, width, drawn, KIDLOTHE_MAX_COINS, messages, KIDLOTHE_MAX_MESSAGE_WORDS);
+    expect(proof.refusal == 0, "the header's coins are its own");
+    expect(proof.words == KIDLOTHE_MAX_MESSAGE_WORDS, "its message words are the header's");
+    expect(kidlothe_prove_one(largest, words, zeros, width, drawn, KIDLOTHE_MAX_COINS - 1, messages, KIDLOTHE_MAX_MESSAGE_WORDS).words
+               == KIDLOTHE_MAX_ONE_MESSAGE, "its longest message has the header's words");
+}
+
+static void test_largest_count(void)
+{
+    static uint8_t bytes[4 + 4 * (KIDLOTHE_MAX_CIRCUIT_WORDS + 1)];
+    static uint32_t read[KIDLOTHE_MAX_CIRCUIT_WORDS + 1];
+    for (uint32_t more = 0; more < 2; more++) {
+        uint32_t count = KIDLOTHE_MAX_CIRCUIT_WORDS + more;
+        bytes[2] = (uint8_t)(count / 256);
+        bytes[3] = (uint8_t)(count % 256);
+        kidlothe_counts counts = kidlothe_read(bytes, 4 + 4 * (size_t)count, 1, read, count);
+        expect(counts.refusal == (more ? KIDLOTHE_BYTES_UNFIT : KIDLOTHE_NONE), "the largest count that is read is the header's");
+    }
+}
+
 int main(void)
 {
+    test_limits();
+    test_largest_count();
     test_answers();
     test_refusals();
     test_null();
