@@ -1,7 +1,7 @@
 -- The residues are a commutative ring, without zero divisors where p is prime, and a word's residue keeps the operations; so what
 -- holds in the ring holds of words below p.
 -- Assumes nothing.
-use Prim.Native.Nat.{ℕ, zero, _+_, _*_, _-_, _%_, _≤_, _<_, Fin}
+use Prim.Native.Nat.{ℕ, _+_, _*_, _-_, _%_, _≤_, _<_, Fin}
 use mathlib.Core.Path.{_≡_, refl, sym, _∙_, ap}
 use mathlib.Core.Logic.{_⊎_, inl, inr}
 use mathlib.Core.List.{List, [], _∷_, map}

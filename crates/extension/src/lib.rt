@@ -9,7 +9,7 @@ ghost use Rattle.multilinear.specs.Extension.{weight, between, halving};
 pub const MAX_COORDINATES: usize = 8;
 
 // (1 - z) × low + z × high, by one product: low + z × (high - low)
-pub fn between(f: Field, z: u32, low: u32, high: u32) -> u32
+fn between(f: Field, z: u32, low: u32, high: u32) -> u32
     ensures { λ r. ⌜ r ≡ between (numbers f) z low high ⌝ }
 {
     f.add(low, f.mul(z, f.sub(high, low)))

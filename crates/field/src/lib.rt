@@ -50,7 +50,7 @@ impl Field {
     }
 
     // The same, with no division for a number below twice the modulus.
-    pub fn reduce_once(self, n: u64) -> u32
+    fn reduce_once(self, n: u64) -> u32
         ensures { λ r. ⌜ r ≡ n % modulus self ⌝ }
     {
         let p = self.largest as u64 + 1;

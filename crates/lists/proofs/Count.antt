@@ -11,7 +11,7 @@ use native.Mathlib.Omega.{arith}
 use native.Mathlib.Decide.{ℕ-discrete}
 use lib.Dec.{eqb}
 use borrow.Author.Tests.{eq-eqb, ne-eqb}
-use lib.ListN.{length, length-append, take, getD, replicate}
+use lib.ListN.{length, length-append, take, getD}
 use lib.Seq.{take-suc}
 use Rattle.lists.specs.Each.{All, Distinct}
 use Rattle.lists.specs.Count.{sum, one-if, count, range}
@@ -38,11 +38,6 @@ sum-take {A} f l d i h =
     ∙ ap sum (map-append f (take i l) (getD l i d ∷ []))
     ∙ sum-append (map f (take i l)) (f (getD l i d) ∷ [])
     ∙ ap (λ (n : ℕ). sum (map f (take i l)) + n) (sum-cons (f (getD l i d)) [] ∙ rw sum-nil (add-zero (f (getD l i d))))
-
-pub sum-replicate : (n d : ℕ) → sum (replicate n d) ≡ n * d
-unfolding sum
-sum-replicate zero d = sym (zero-mul d)
-sum-replicate (suc n) d = let ih = sum-replicate n d in omega arith
 
 module _ {A : Type 0} where
   pub sum-same : (P : A → Type 0) (f g : A → ℕ) → ((x : A) → P x → f x ≡ g x) → (l : List A) → All P l → sum (map f l) ≡ sum (map g l)

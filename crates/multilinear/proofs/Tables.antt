@@ -14,7 +14,7 @@ use Rattle.algebra.specs.Numbers.{Numbers}
 use Rattle.algebra.specs.Hom.{Hom}
 use Rattle.algebra.proofs.Hom.{hom-sub, hom-mul}
 use Rattle.multilinear.specs.Extension.{bits, weightOfBits, weight, between, corner, blend, fold}
-use Rattle.multilinear.specs.Tables.{weights, folded, Listed, WeightsLength, FoldedLength, FoldedEntry, WeightsKept, FoldedKept}
+use Rattle.multilinear.specs.Tables.{weights, folded, Listed, WeightsLength, FoldedEntry, WeightsKept, FoldedKept}
 use Rattle.multilinear.proofs.Weight.{weight-low, weight-high}
 use Rattle.multilinear.proofs.Extension.{half, length-corner, at-corner}
 use Rattle.multilinear.proofs.Linear.{first-fixed}
@@ -110,11 +110,6 @@ module _ {C : Type 0} (N : Numbers C) where
   pub folded-one : (r : C) (vs : List C) → folded N (r ∷ []) vs ≡ fold N r vs
   unfolding folded
   folded-one r vs = refl
-
-  pub length-folded : FoldedLength N
-  unfolding folded
-  length-folded [] vs m e = e ∙ ap (λ (n : ℕ). 2 ^ n) (zero-add m)
-  length-folded (r ∷ xs) vs m e = length-folded xs (fold N r vs) m (length-fold r vs ∙ half (length xs + m) (length vs) (e ∙ ap (λ (n : ℕ). 2 ^ n) (suc-add (length xs) m)))
 
 module _ {C : Type 0} {N : Numbers C} where
   pub folded-entry : FoldedEntry N

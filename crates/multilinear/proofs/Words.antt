@@ -2,7 +2,7 @@
 -- Assumes nothing.
 use mathlib.Core.Path.{_≡_, sym, ap, _∙_}
 use mathlib.Core.List.{List, [], _∷_, map}
-use Prim.Native.Nat.{ℕ, zero, suc, _+_, _*_, _%_, _^_, _<_, Fin}
+use Prim.Native.Nat.{ℕ, zero, suc, _+_, _*_, _%_, _^_, _<_}
 use native.Mathlib.Nat.{mod-lt, mod-eq-of-lt, mul-one, add-zero}
 use lib.ListN.{length, getD, length-map}
 use Rattle.lists.specs.Each.{All}
@@ -10,11 +10,10 @@ use Rattle.algebra.specs.Numbers.{words}
 use Rattle.algebra.specs.Polynomial.{plus, times, polynomials}
 use Rattle.algebra.specs.Residue.{residue, residues}
 use Rattle.algebra.proofs.Residue.{residues-ring, residue-hom, residue-injective}
-use Rattle.multilinear.specs.Extension.{bits, weightOfBits, weight, sumFrom, extension, halving, corner, fold}
-use Rattle.multilinear.specs.Theorems.{HalvingOnWords, AtCornerOnWords, FirstFixedOnWords, Below, OneValue, CoefficientsBelow}
+use Rattle.multilinear.specs.Extension.{bits, weightOfBits, weight, sumFrom, extension, halving, corner}
+use Rattle.multilinear.specs.Theorems.{HalvingOnWords, AtCornerOnWords, Below, OneValue, CoefficientsBelow}
 use Rattle.multilinear.proofs.Extension.{halving-is-extension, at-corner}
-use Rattle.multilinear.proofs.Hom.{hom-getD, hom-extension, hom-halving, hom-fold, hom-corner}
-use Rattle.multilinear.proofs.Linear.{first-fixed}
+use Rattle.multilinear.proofs.Hom.{hom-getD, hom-extension, hom-halving, hom-corner}
 
 module _ (p : ℕ) (pos : 0 < p) where
   pub sumFrom-below : {A : Type 0} (f : ℕ → A → ℕ) (a : ℕ) (l : List A) → sumFrom (words p) f a l < p
@@ -71,12 +70,6 @@ at-corner-on-words p pos vs k b e l h =
     ∙ ap (extension (residues p pos) (map (residue p pos) vs)) (hom-corner (residue-hom p pos) (bits k b))
     ∙ at-corner (residues-ring p pos) (map (residue p pos) vs) k b (length-map vs (residue p pos) ∙ e) l
     ∙ sym (hom-getD (residue-hom p pos) vs b))
-
-pub first-fixed-on-words : FirstFixedOnWords
-first-fixed-on-words p pos vs r zs e =
-    by-residues p pos vs (r ∷ zs) (fold (words p) r vs) zs
-    (first-fixed (residues-ring p pos) (map (residue p pos) vs) (residue p pos r) (map (residue p pos) zs) (sized p pos (λ k. 2 ^ suc k) vs zs e)
-    ∙ ap (λ (l : List (Fin p)). extension (residues p pos) l (map (residue p pos) zs)) (sym (hom-fold (residue-hom p pos) r vs)))
 
 -- ALONG POLYNOMIALS: products of words are reduced, and sums of what is reduced
 module _ (p : ℕ) (pos : 0 < p) where

@@ -31,9 +31,6 @@ module _ {C : Type 0} (N : Numbers C) where
   abbrev pub WeightsLength : Type 0
   WeightsLength = (zs : List C) → length (weights zs) ≡ 2 ^ length zs
 
-  abbrev pub FoldedLength : Type 0
-  FoldedLength = (xs vs : List C) (m : ℕ) → length vs ≡ 2 ^ (length xs + m) → length (folded xs vs) ≡ 2 ^ m
-
   -- the entries of a table with variables fixed: the extension where the other coordinates are an index's bits
   abbrev pub FoldedEntry : Type 0
   FoldedEntry =

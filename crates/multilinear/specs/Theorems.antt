@@ -52,11 +52,6 @@ AtCornerOnWords =
     (p : ℕ) → 0 < p → (vs : List ℕ) (k b : ℕ) → length vs ≡ 2 ^ k → b < 2 ^ k → All (λ v. v < p) vs
     → extension (words p) vs (corner (words p) (bits k b)) ≡ getD vs b 0
 
-abbrev pub FirstFixedOnWords : Type 0
-FirstFixedOnWords =
-    (p : ℕ) → 0 < p → (vs : List ℕ) (r : ℕ) (zs : List ℕ) → length vs ≡ 2 ^ suc (length zs)
-    → extension (words p) vs (r ∷ zs) ≡ extension (words p) (fold (words p) r vs) zs
-
 abbrev pub Below : Type 0
 Below = (p : ℕ) → 0 < p → (vs z : List ℕ) → extension (words p) vs z < p
 

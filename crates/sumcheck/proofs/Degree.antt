@@ -13,7 +13,7 @@ use Rattle.lists.specs.Each.{All}
 use Rattle.algebra.specs.Numbers.{Numbers}
 use Rattle.algebra.specs.Polynomial.{plus, minus, times, constant, X, polynomials}
 use Rattle.algebra.proofs.Polynomial.{length-plus, length-minus, length-times}
-use Rattle.multilinear.specs.Extension.{weight, extension}
+use Rattle.multilinear.specs.Extension.{extension}
 use Rattle.multilinear.specs.Theorems.{degrees}
 use Rattle.multilinear.proofs.Degree.{degrees-append, degrees-halves, degrees-none, constants-short, length-sumFrom, length-weight, degree-bound}
 use Rattle.circuit.specs.Gate.{Gate, kinds}

@@ -4,7 +4,7 @@ ghost use Rattle.text.specs.Lines.{numberText, numbersText, lineText};
 ghost use Rattle.text.specs.Wrote.{Wrote};
 
 // Writes bytes.
-pub fn put(buffer: &mut [u8], bytes: &[u8]) -> usize
+fn put(buffer: &mut [u8], bytes: &[u8]) -> usize
     ensures { λ r. ⌜ Wrote (now (bytes .entry)) (now (buffer .entry)) (now (buffer .exit)) r ⌝ }
 {
     let count = lists::least(bytes.len(), buffer.len());
@@ -15,7 +15,7 @@ pub fn put(buffer: &mut [u8], bytes: &[u8]) -> usize
 }
 
 // Writes a number after a space.
-pub fn put_number(buffer: &mut [u8], number: u32) -> usize
+fn put_number(buffer: &mut [u8], number: u32) -> usize
     ensures { λ r. ⌜ Wrote (numberText number) (now (buffer .entry)) (now (buffer .exit)) r ⌝ }
 {
     let mut digits = [0u8; 20];
@@ -25,7 +25,7 @@ pub fn put_number(buffer: &mut [u8], number: u32) -> usize
 }
 
 // Writes numbers, each after a space.
-pub fn put_numbers(buffer: &mut [u8], numbers: &[u32]) -> usize
+fn put_numbers(buffer: &mut [u8], numbers: &[u32]) -> usize
     ensures { λ r. ⌜ Wrote (numbersText (now (numbers .entry))) (now (buffer .entry)) (now (buffer .exit)) r ⌝ }
 {
     let mut at = 0;
