@@ -51,7 +51,7 @@ abbrev pub behind : List ℕ → List ℕ
 behind l = drop (size (firstWord l)) l
 
 pub length-front : (l : List ℕ) → size (firstWord l) ≤ length l → length (front l) ≡ firstWord l
-length-front l h = length-words (firstWord l) (take (4 * firstWord l) (drop 4 l)) (simp (length-take, length-drop) (omega arith))
+length-front l h = length-words (take (4 * firstWord l) (drop 4 l)) ∙ simp (length-take, length-drop) (omega arith)
 
 -- ALL ARRAYS
 pub arrays-none : (n : ℕ) (l : List ℕ) → 0 < n → whole l ≡ false → arrays n l ≡ none

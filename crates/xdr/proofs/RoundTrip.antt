@@ -66,7 +66,7 @@ length-array ws = let e = length-encoded ws in omega arith
 -- AN ARRAY AT THE FRONT
 module _ (ws rest : List ℕ) (h : Legal ws) where
   front-count : firstWord (encodeArray ws ++ rest) ≡ length ws
-  unfolding firstWord encodeArray bytesOf
+  unfolding firstWord words encodeArray bytesOf
   front-count = word-of-bytes (length ws) (omega arith)
 
   front-drop : drop 4 (encodeArray ws ++ rest) ≡ flatMap bytesOf ws ++ rest
@@ -130,7 +130,7 @@ encoded-words (suc n) (a ∷ b ∷ c ∷ d ∷ l) e h =
     (encoded-words n l (omega arith) (h .1 .1 .1 .1))
 
 count-bytes : (l : List ℕ) → 4 ≤ length l → Bytes l → bytesOf (firstWord l) ++ drop 4 l ≡ l
-unfolding firstWord
+unfolding firstWord words
 count-bytes [] e h = absurd (omega arith)
 count-bytes (a ∷ []) e h = absurd (omega arith)
 count-bytes (a ∷ b ∷ []) e h = absurd (omega arith)
