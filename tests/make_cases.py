@@ -25,8 +25,8 @@ REQUEST = 0
 # The numbers of the operations in crates/vectors/src/main.rt.
 OPERATIONS = {"load": 1, "evaluate": 2, "read": 3, "prove": 4, "prove_one": 5, "check": 6, "open": 7, "step": 8, "transcript": 9,
               "verdict": 10, "output": 11, "count_whole": 12, "count_single": 13, "count_rule": 14}
-# The limits there: bytes of a case, and words of a lent buffer of all operations but read.
-MAX_BYTES, MAX_BUFFER = 262144, 16384
+# The bytes of a case there, at most.
+MAX_BYTES = 262144
 # A buffer of at most so many words is printed whole, a longer one with its checksum (crates/cases).
 MOST_PRINTED, MODULUS = 24, 100000000000000003
 # The figures of a record, in the order in which they are given and printed.
@@ -86,7 +86,6 @@ def stdin_of(case):
     op, args, note = case["op"], case["args"], note_of(case).encode("ascii")
     names = read.takes(REQUEST, op) if op in read.TAKES else list(args)
     lists = [list_of(args[name]) for name in names if name != "bytes"]
-    assert op == "read" or len(args.get("buf", [])) <= MAX_BUFFER
     starts = itertools.accumulate(map(len, lists), initial=1 + len(lists))
     data = args.get("bytes", b"")
     bytes_at = 12 + len(note)

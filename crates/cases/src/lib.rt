@@ -1,5 +1,5 @@
-// What the test program shares with no operation: parts and lists of a case, and how numbers, refusals and buffers are printed.
-// Nothing here is required of the bytes: what would stand past their end is left out, and the line printed then differs.
+// What the test program reads and prints with, whatever the operation: a case from standard input, its parts and lists; and numbers, refusals
+// and buffers as its lines have them. Nothing is required of a case: what would stand past its end is left out, and the line then differs.
 use libc::STDIN_FILENO;
 use libc::STDOUT_FILENO;
 use refusal::Cause;
@@ -18,7 +18,7 @@ const MOST_PRINTED: usize = 24;
 // The modulus of the checksum, a prime.
 const MODULUS: u64 = 100000000000000003;
 
-// Reads the next part of standard input, without its length, to the front of a buffer, and answers how many bytes it read: 0 at the
+// Reads the next case of standard input, without its length, to the front of a buffer, and answers how many bytes it has: 0 at the
 // input's end.
 pub fn next(buffer: &mut [u8]) -> usize
     ensures { λ r. ⌜ Counts r (now (buffer .exit)) ⌝ }

@@ -1,9 +1,8 @@
 // Cases of load and evaluate.
+use crate::MAX_WORDS;
 use evaluation::Evaluated;
 use libc::STDOUT_FILENO;
 use refusal::Checked;
-
-const MAX_BUFFER: usize = 16384;
 
 pub fn load(lists: &[u32]) {
     match legality::load(cases::list(lists, 0)) {
@@ -17,7 +16,7 @@ pub fn load(lists: &[u32]) {
 }
 
 pub fn evaluate(lists: &[u32]) {
-    let mut buffer = [0u32; MAX_BUFFER];
+    let mut buffer = [0u32; MAX_WORDS];
     let count = cases::copy(cases::list(lists, 2), &mut buffer);
     let lent = &mut buffer[..count];
     match evaluation::evaluate(cases::list(lists, 0), cases::list(lists, 1), lent) {

@@ -51,12 +51,12 @@ const COUNT_SINGLE: u32 = 13;
 
 const COUNT_RULE: u32 = 14;
 
-// Cases enough for all, bytes enough for the longest, and words enough for its lists.
+// Cases enough for all, bytes enough for the longest, and words enough for its lists and for a buffer that is lent.
 const MAX_CASES: usize = 65536;
 
 const MAX_BYTES: usize = 262144;
 
-const MAX_WORDS: usize = MAX_BYTES / 4;
+pub const MAX_WORDS: usize = MAX_BYTES / 4;
 
 // Where the note of a case starts.
 const NOTE: usize = 12;

@@ -1,9 +1,8 @@
 // Cases of both forms of prove.
+use crate::MAX_WORDS;
 use libc::STDOUT_FILENO;
 use prover::Message;
 use prover::Proved;
-
-const MAX_BUFFER: usize = 16384;
 
 // Prints a number after a space.
 fn print_count(count: usize) {
@@ -25,7 +24,7 @@ fn print_proved(proved: Proved) {
 }
 
 pub fn prove(lists: &[u32]) {
-    let mut buffer = [0u32; MAX_BUFFER];
+    let mut buffer = [0u32; MAX_WORDS];
     let count = cases::copy(cases::list(lists, 3), &mut buffer);
     let lent = &mut buffer[..count];
     let proved = prover::prove(
@@ -39,7 +38,7 @@ pub fn prove(lists: &[u32]) {
 }
 
 pub fn prove_one(lists: &[u32]) {
-    let mut buffer = [0u32; MAX_BUFFER];
+    let mut buffer = [0u32; MAX_WORDS];
     let count = cases::copy(cases::list(lists, 3), &mut buffer);
     let lent = &mut buffer[..count];
     let message = prover::prove_one(

@@ -1,6 +1,6 @@
 -- `copy` meets its contract: the buffer is as long as before, so it has the words that are counted.
 -- Assumes nothing.
-use mathlib.Core.Path.{_≡_, refl, sym}
+use mathlib.Core.Path.{refl, sym}
 use Prim.Native.Nat.{_≤_}
 use native.Mathlib.Omega.{arith}
 use lib.ListN.{length}

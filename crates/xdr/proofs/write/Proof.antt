@@ -23,15 +23,22 @@ Inv-loop bytes number buffer₀ at₀ to₀ left₀ buffer at to left =
 abbrev μ-loop : tie.MeasureT-loop
 μ-loop bytes number buffer₀ at₀ to₀ left₀ buffer at to left = left
 
--- the array at the loop's place, once its count is read
-step-at :
-    (read : tie.After-word-at Inv-loop μ-loop)
-    → Step (read .before .before .loop .left) (read .before .before .loop .at) (read .word-at .result)
-    (read .before .before .before .before .before .args .bytes .now)
+-- where the loop stands, and the array there, once its count is read
+abbrev Here : Type 0
+Here = tie.At-loop Inv-loop μ-loop
+
+abbrev start : Here → tie.Start Inv-loop μ-loop
+start o = o .before .before .before
+
+abbrev at-loop : tie.After-word-at Inv-loop μ-loop → Here
+at-loop read = read .before .before
+
+step-at : (read : tie.After-word-at Inv-loop μ-loop)
+    → Step (at-loop read .loop .left) (at-loop read .loop .at) (read .word-at .result) (start (at-loop read) .args .bytes .now)
 step-at read =
-    let here = read .before .before .loop in
-    step (here .left) (here .at) (read .word-at .result) (read .before .before .before .before .before .args .bytes .now)
-    (read .before .loop-test .taken) (here .inv .2) (here .inv .6) (read .word-at .ensures)
+    let here = at-loop read .loop in
+    step (here .left) (here .at) (read .word-at .result) (start (at-loop read) .args .bytes .now) (read .before .loop-test .taken)
+    (here .inv .2) (here .inv .6) (read .word-at .ensures)
 
 loop-holds : tie.Need-loop-holds Inv-loop μ-loop
 loop-holds c = ([], refl, search needs, refl, refl, search needs, c .before .before .pre .0, refl)
@@ -87,12 +94,11 @@ loop-less c = search needs
 loop-again : tie.Need-loop-again Inv-loop μ-loop
 loop-again c =
     let read = c .before .before .before .before .before in
-    let here = read .before .before in
+    let here = at-loop read in
     let inv = here .loop .inv in
     let s = step-at read in
-    let start = here .before .before .before in
-    let buffer = start .args .buffer .now in
-    let ws = front (drop (here .loop .at) (start .args .bytes .now)) in
+    let buffer = start here .args .buffer .now in
+    let ws = front (drop (here .loop .at) (start here .args .bytes .now)) in
     let lent = take (length (here .loop .buffer) - here .loop .to) (drop (here .loop .to) (here .loop .buffer)) in
     let call = c .before .before .put-words in
     let room : length ws ≤ length lent = simp (length-take, length-drop) (omega arith) in
@@ -114,11 +120,10 @@ same-length c = search needs
 returns : tie.Need-returns Inv-loop μ-loop
 returns c =
     let here = c .before in
-    let start = here .before .before .before in
     let inv = here .loop .inv in
-    let none = words-none (here .loop .left) (drop (here .loop .at) (start .args .bytes .now)) (omega arith) in
+    let none = words-none (here .loop .left) (drop (here .loop .at) (start here .args .bytes .now)) (omega arith) in
     inv .3
-    ∙ ap (λ (ms : List ℕ). over ms (start .args .buffer .now)) (sym (inv .7 ∙ ap (λ (t : List ℕ). inv .0 ++ t) none ∙ append-nil (inv .0)))
+    ∙ ap (λ (ms : List ℕ). over ms (start here .args .buffer .now)) (sym (inv .7 ∙ ap (λ (t : List ℕ). inv .0 ++ t) none ∙ append-nil (inv .0)))
 
 pub write-spec : {M : Type 1} → statement M
 write-spec =
