@@ -1,7 +1,8 @@
 #!/usr/bin/env python3
 """Tests of ./job on the examples. They run the built programs; build them first, by ./job or `rt check evaluate transcript verdict`.
 
-Expected transcripts come from the literal reading of the specification in make_cases.py, not from a program of this repository.
+What is expected stands in tests/expected; the transcripts there come from a literal reading of the specification, not from a program of
+this repository.
 """
 import os
 import pathlib
@@ -11,10 +12,8 @@ import subprocess
 import tempfile
 import unittest
 
-import make_cases
-
 ROOT = pathlib.Path(__file__).resolve().parent.parent
-WORKED, INVOICE = ROOT / "examples" / "worked", ROOT / "examples" / "invoice"
+WORKED, INVOICE, EXPECTED = ROOT / "examples" / "worked", ROOT / "examples" / "invoice", ROOT / "tests" / "expected"
 LARGE_PRIME = 4294967291
 INVOICE_COINS = 24
 
@@ -100,27 +99,17 @@ class Job(unittest.TestCase):
     def test_worked_example(self):
         ran = job(cwd=self.folder, env=dict(os.environ))
         self.assertEqual((ran.stderr, ran.returncode), ("", 0))
-        self.assertEqual(ran.stdout, (ROOT / "tests" / "expected" / "job-worked.txt").read_text())
+        self.assertEqual(ran.stdout, (EXPECTED / "job-worked.txt").read_text())
 
     def test_invoice_with_given_coins(self):
-        coins, words = numbers_in(INVOICE / "coins.txt"), numbers_in(INVOICE / "input.txt")
+        words = numbers_in(INVOICE / "input.txt")
         total = sum(price * quantity for price, quantity in zip(words[::2], words[1::2]))
         ran = job(INVOICE / "circuit.txt", INVOICE / "input.txt", "--coins", INVOICE / "coins.txt")
         self.assertEqual((ran.stderr, ran.returncode), ("", 0))
         self.assertIn(f"Output, by the program evaluate: {total} (modulo {LARGE_PRIME})\n", ran.stdout)
-        self.assertEqual(block(ran.stdout, "Transcript"), self.transcript(words, coins))
+        self.assertEqual(block(ran.stdout, "Transcript"), (EXPECTED / "invoice-transcript.txt").read_text())
         self.assertIn(f"accepted.\nThe output {total} is released.\n", ran.stdout)
         self.assertIn(f"at most 50 of every {LARGE_PRIME} coin lists", ran.stdout)
-
-    def transcript(self, words, coins):
-        """The invoice's transcript by the literal reading of the specification."""
-        sums = [[1, 2 * i, 2 * i + 1] for width in (1, 2, 4) for i in range(width)]
-        products = [[2, 2 * i, 2 * i + 1] for i in range(8)]
-        circuit = [LARGE_PRIME, 4, 1, 2, 3, 4] + sum(sums + products, [])
-        text = make_cases.text_line("claim", make_cases.values_of(circuit, words)[0])
-        for (layer, turn), message in zip(make_cases.places(circuit), make_cases.honest(circuit, words, coins)):
-            text += make_cases.text_line("line" if turn == 2 * make_cases.exponent(circuit, layer) else "sum", message)
-        return text
 
     def test_drawn_coins(self):
         drawn = []
@@ -192,6 +181,15 @@ class Job(unittest.TestCase):
             ran = job(*arguments, env=path_with(self.folder))
             self.assertEqual((ran.stderr, ran.returncode), ("not proved\nrt check failed with exit status 1\n", 3))
             self.assertNotIn("released", ran.stdout)
+
+    def test_standard_input_of_a_byte_more_than_is_read(self):
+        """65,536 bytes that are three arrays are refused for their input, and one byte more makes them too many."""
+        counted = ([13, 1, 1, 2, 0, 1], 4834 * [3], 11541 * [4])
+        data = b"".join(n.to_bytes(4, "big") for words in counted for n in [len(words)] + words)
+        self.assertEqual(len(data), 65536)
+        for given, answer in ((data, b"refused 8\n"), (data + bytes(1), b"refused 20\n")):
+            ran = subprocess.run([ROOT / "target" / "bin" / "transcript"], input=given, capture_output=True)
+            self.assertEqual((ran.stdout, ran.returncode), (answer, 0))
 
     def test_only_the_whole_answer_releases(self):
         """With stand-ins for the programs, of which verdict answers something else than accepted or a refusal."""

@@ -1,64 +1,30 @@
--- Laws of what is read, words and parts, and of the checksum of what is left of a list.
+-- Laws of parts that are cut off where the list ends, and of the checksum of what is left of a list.
 -- Assumes nothing.
 use mathlib.Core.Path.{_≡_, refl, sym, ap, _∙_}
-use mathlib.Core.List.{List, [], _∷_, _++_}
-use Prim.Native.Nat.{ℕ, zero, suc, _+_, _-_, _*_, _%_, _≤_, _<_, min}
-use borrow.Author.Tests.{lt-leb, le-leb}
+use mathlib.Core.List.{List, [], _++_}
+use Prim.Native.Nat.{ℕ, _+_, _-_, _*_, _%_, _≤_, _<_, min}
+use mathlib.Core.Logic.{_⊎_, inl, inr}
+use native.Mathlib.Nat.{eq-zero-or-pos}
 use native.Mathlib.Numerals.{add-one}
 use native.Mathlib.Omega.{arith}
-use lib.ListN.{length, getD, take, drop, length-append, length-drop, drop-of-length-le}
-use lib.Seq.{drop-cons, take-nil, length-take-le}
+use lib.ListN.{length, getD, take, drop, length-append, length-drop}
+use lib.Seq.{drop-cons, length-take-le}
 use Rattle.lists.proofs.Parts.{take-most}
 use Rattle.io.specs.Counts.{Counts}
-use Rattle.cases.specs.Words.{wordAt, firstWords}
-use Rattle.cases.specs.Parts.{partAt, pastAt}
+use Rattle.cases.specs.Parts.{between}
 use Rattle.cases.specs.Checksum.{modulus, checksumFrom}
 
--- WORDS
--- where a whole word stands, and where not
-pub word-here : (l : List ℕ) (at : ℕ) → at + 4 ≤ length l
-    → wordAt l at ≡ ((getD l at 0 * 256 + getD l (at + 1) 0) * 256 + getD l (at + 2) 0) * 256 + getD l (at + 3) 0
-unfolding wordAt
-word-here l at h = simp (le-leb (at + 4) (length l) h)
-
-pub word-cut : (l : List ℕ) (at : ℕ) → length l < at + 4 → wordAt l at ≡ 0
-unfolding wordAt
-word-cut l at h = simp (lt-leb (at + 4) (length l) h)
-
-pub words-none : (l : List ℕ) → firstWords 0 l ≡ []
-unfolding firstWords
-words-none l = refl
-
-pub words-more : (n : ℕ) (l : List ℕ) → firstWords n l ++ (wordAt l (4 * n) ∷ []) ≡ firstWords (n + 1) l
-unfolding firstWords
-words-more n l = rw add-one
-
-pub length-words : (n : ℕ) (l : List ℕ) → length (firstWords n l) ≡ n
-unfolding firstWords
-length-words zero l = refl
-length-words (suc n) l = simp length-append (omega (arith, length-words n l))
-
 -- PARTS
--- a part that ends with the list or is cut off by its end, and one that ends before
-pub past-end : (l : List ℕ) (at : ℕ) → length l ≤ at + (4 + wordAt l at) → length l ≡ pastAt l at
-unfolding pastAt
-past-end l at h = omega arith
-
-pub past-within : (l : List ℕ) (at : ℕ) → at + (4 + wordAt l at) ≤ length l → at + (4 + wordAt l at) ≡ pastAt l at
-unfolding pastAt
-past-within l at h = omega arith
-
--- the part is what stands between its length and the place behind it
-pub part-none : (l : List ℕ) (at : ℕ) → pastAt l at < at + 4 → [] ≡ partAt l at
-unfolding partAt pastAt
-part-none l at h =
-    sym (ap (take (wordAt l at)) (drop-of-length-le l {i = at + 4} (omega arith)) ∙ take-nil (wordAt l at))
-
-pub part-here : (l : List ℕ) (at : ℕ) → at + 4 ≤ pastAt l at → take (pastAt l at - (at + 4)) (drop (at + 4) l) ≡ partAt l at
-unfolding partAt pastAt
-part-here l at h =
-    let size : pastAt l at - (at + 4) ≡ min (wordAt l at) (length (drop (at + 4) l)) = simp length-drop (omega arith) in
-    ap (λ k. take k (drop (at + 4) l)) size ∙ take-most (wordAt l at) (drop (at + 4) l)
+-- Both ends of a part are moved to the list's end where they lie behind it, and the start to the end of the part.
+pub between-clipped : {A : Type 0} (start end from to : ℕ) (l : List A) → to ≡ min end (length l) → from ≡ min start to
+    → between from to l ≡ between start end l
+between-clipped start end from to l e f =
+    let size : to - from ≡ min (end - start) (length (drop start l)) = simp length-drop (omega arith) in
+    moved (eq-zero-or-pos (to - from)) ∙ ap (λ (n : ℕ). take n (drop start l)) size ∙ take-most (end - start) (drop start l)
+  where
+    moved : (to - from ≡ 0) ⊎ (0 < to - from) → between from to l ≡ take (to - from) (drop start l)
+    moved (inl none) = ap (λ (n : ℕ). take n (drop from l)) none ∙ sym (ap (λ (n : ℕ). take n (drop start l)) none)
+    moved (inr some) = let same : from ≡ start = omega arith in ap (λ (n : ℕ). take (to - from) (drop n l)) same
 
 -- what counts elements of a list counts those of the list with more behind it
 pub counts-front : (n : ℕ) (xs ys : List ℕ) → n ≤ length xs → Counts n (xs ++ ys)

@@ -1,14 +1,13 @@
--- Parts of a list of bytes: a length, one word, and then that many bytes.
+-- Parts of a list: of the bytes of a case, and of its words.
 -- Assumes nothing.
-use Prim.Native.Nat.{ℕ, _+_, min}
+use Prim.Native.Nat.{ℕ, _+_, _-_}
 use mathlib.Core.List.{List}
-use lib.ListN.{length, take, drop}
-use Rattle.cases.specs.Words.{wordAt}
+use lib.ListN.{getD, take, drop}
 
--- the part at a place, without its length; as much of it as there is, where the list ends before it
-unfoldable pub partAt : List ℕ → ℕ → List ℕ
-partAt l at = take (wordAt l at) (drop (at + 4) l)
+-- what stands from one place to another, as much of it as there is
+abbrev pub between : {A : Type 0} → ℕ → ℕ → List A → List A
+between start end l = take (end - start) (drop start l)
 
--- the place behind the part at a place, at most the list's end
-unfoldable pub pastAt : List ℕ → ℕ → ℕ
-pastAt l at = min (length l) (at + 4 + wordAt l at)
+-- The list with this index. The words begin with the places where the lists start, in order; the place behind the last list follows.
+unfoldable pub listAt : ℕ → List ℕ → List ℕ
+listAt i l = between (getD l i 0) (getD l (i + 1) 0) l

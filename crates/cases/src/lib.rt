@@ -1,17 +1,15 @@
-// What the programs that run cases with expected answers share: reading a case from bytes, and printing what an operation answers.
-// Nothing here is required of the bytes: what would stand past their end reads as 0 or is left out, and the line printed then differs.
+// What the test program reads and prints with, whatever the operation: a case from standard input, its parts and lists; and numbers, refusals
+// and buffers as its lines have them. Nothing is required of a case: what would stand past its end is left out, and the line then differs.
 use libc::STDIN_FILENO;
 use libc::STDOUT_FILENO;
 use refusal::Cause;
 ghost use mathlib.Core.Path.{_≡_};
-ghost use mathlib.Core.List.{_++_};
-ghost use Prim.Native.Nat.{_+_, _/_, _≤_, _<_, min};
-ghost use lib.ListN.{length, drop, replicate};
+ghost use Prim.Native.Nat.{_<_, min};
+ghost use lib.ListN.{length, take};
 ghost use Rattle.lists.specs.Buffer.{over};
 ghost use Rattle.refusal.specs.Number.{numberOf};
 ghost use Rattle.io.specs.Counts.{Counts};
-ghost use Rattle.cases.specs.Words.{wordAt, firstWords};
-ghost use Rattle.cases.specs.Parts.{partAt, pastAt};
+ghost use Rattle.cases.specs.Parts.{between, listAt};
 ghost use Rattle.cases.specs.Checksum.{checksumOf};
 
 // A buffer of at most so many words is printed whole.
@@ -20,99 +18,52 @@ const MOST_PRINTED: usize = 24;
 // The modulus of the checksum, a prime.
 const MODULUS: u64 = 100000000000000003;
 
-// A byte as a word.
-fn wide(byte: u8) -> u32
-    ensures { λ r. ⌜ (r ≡ byte) × (r < 256) ⌝ }
-{
-    byte as u32
-}
-
-// The word at a place, high byte first; 0 where fewer than four bytes stand there.
-pub fn word(bytes: &[u8], at: usize) -> u32
-    ensures { λ r. ⌜ r ≡ wordAt (now (bytes .entry)) at ⌝ }
-{
-    if bytes.len() < 4 {
-        return 0;
-    }
-    if bytes.len() - 4 < at {
-        return 0;
-    }
-    let a = wide(bytes[at]);
-    let b = wide(bytes[at + 1]);
-    let c = wide(bytes[at + 2]);
-    let d = wide(bytes[at + 3]);
-    ((a * 256 + b) * 256 + c) * 256 + d
-}
-
-// The place behind the part at a place: its length, one word, and then that many bytes.
-pub fn past(bytes: &[u8], at: usize) -> usize
-    ensures place { λ r. ⌜ r ≡ pastAt (now (bytes .entry)) at ⌝ }
-    ensures ahead { λ r. ⌜ (r ≤ length (now (bytes .entry))) × (at < length (now (bytes .entry)) → at < r) ⌝ }
-{
-    let size = 4 + word(bytes, at) as usize;
-    if bytes.len() <= at {
-        return bytes.len();
-    }
-    if bytes.len() - at <= size {
-        return bytes.len();
-    }
-    at + size
-}
-
-// The part at a place, without its length.
-pub fn part(bytes: &[u8], at: usize) -> &[u8]
-    ensures { λ r. ⌜ now r ≡ partAt (now (bytes .entry)) at ⌝ }
-{
-    let end = past(bytes, at);
-    if end < 4 {
-        return &bytes[..0];
-    }
-    if end - 4 < at {
-        return &bytes[..0];
-    }
-    let start = at + 4;
-    &bytes[start..end]
-}
-
-// Reads the next part of standard input, without its length, to the front of a buffer, and answers how many bytes it read: 0 at the
+// Reads the next case of standard input, without its length, to the front of a buffer, and answers how many bytes it has: 0 at the
 // input's end.
 pub fn next(buffer: &mut [u8]) -> usize
     ensures { λ r. ⌜ Counts r (now (buffer .exit)) ⌝ }
 {
     let mut size = [0u8; 4];
     io::read_full(STDIN_FILENO, &mut size);
-    let count = lists::least(word(&size, 0) as usize, buffer.len());
+    let count = lists::least(xdr::word_at(&size, 0) as usize, buffer.len());
     io::read_full(STDIN_FILENO, &mut buffer[..count])
 }
 
-// Writes the words of the bytes to the front of a buffer, and answers how many: all, or as many as the buffer holds.
-pub fn words(bytes: &[u8], buffer: &mut [u32]) -> usize
-    ensures within { λ r. ⌜ Counts r (now (buffer .exit)) ⌝ }
-    ensures count { λ r. ⌜ r ≡ min (length (now (bytes .entry)) / 4) (length (now (buffer .entry))) ⌝ }
-    ensures words { λ r. ⌜ now (buffer .exit) ≡ over (firstWords r (now (bytes .entry))) (now (buffer .entry)) ⌝ }
+// The bytes from one place to another.
+pub fn part(bytes: &[u8], start: usize, end: usize) -> &[u8]
+    ensures { λ r. ⌜ now r ≡ between start end (now (bytes .entry)) ⌝ }
 {
-    let count = lists::least(bytes.len() / 4, buffer.len());
-    for i in 0..count {
-        buffer[i] = word(bytes, 4 * i);
-    }
+    let to = lists::least(end, bytes.len());
+    let from = lists::least(start, to);
+    &bytes[from..to]
+}
+
+// The list with this index.
+pub fn list(words: &[u32], index: u32) -> &[u32]
+    ensures { λ r. ⌜ now r ≡ listAt index (now (words .entry)) ⌝ }
+{
+    let place = index as usize;
+    let end = lists::word(words, place + 1) as usize;
+    let start = lists::word(words, place) as usize;
+    let to = lists::least(end, words.len());
+    let from = lists::least(start, to);
+    &words[from..to]
+}
+
+// Writes words over the front of a buffer, as many as it holds, and answers how many.
+pub fn copy(words: &[u32], buffer: &mut [u32]) -> usize
+    ensures within { λ r. ⌜ Counts r (now (buffer .exit)) ⌝ }
+    ensures count { λ r. ⌜ r ≡ min (length (now (words .entry))) (length (now (buffer .entry))) ⌝ }
+    ensures words { λ _. ⌜ now (buffer .exit) ≡
+        over (take (length (now (buffer .entry))) (now (words .entry))) (now (buffer .entry)) ⌝ }
+{
+    let count = lists::least(words.len(), buffer.len());
+    lists::put(buffer, words);
     count
 }
 
-// Writes one word to the first `count` places of a buffer, and answers to how many: `count`, or as many as the buffer has.
-pub fn fill(buffer: &mut [u32], count: usize, value: u32) -> usize
-    ensures within { λ r. ⌜ Counts r (now (buffer .exit)) ⌝ }
-    ensures count { λ r. ⌜ r ≡ min count (length (now (buffer .entry))) ⌝ }
-    ensures words { λ r. ⌜ now (buffer .exit) ≡ replicate r value ++ drop r (now (buffer .entry)) ⌝ }
-{
-    let most = lists::least(count, buffer.len());
-    for i in 0..most {
-        buffer[i] = value;
-    }
-    most
-}
-
 // The checksum of words, which a generator of expected answers computes as well.
-pub fn checksum(words: &[u32]) -> u64
+fn checksum(words: &[u32]) -> u64
     ensures { λ r. ⌜ r ≡ checksumOf (now (words .entry)) ⌝ }
 {
     let mut h: u64 = 0;

@@ -4,31 +4,18 @@ use mathlib.Core.Path.{_≡_, refl, sym, ap, _∙_}
 use mathlib.Core.Bool.{Bool, true, false, cond, _&&_, false≢true}
 use mathlib.Core.Option.{Option, none, some, IsSome}
 use mathlib.Core.List.{List, [], _∷_, flatten}
-use Prim.Native.Nat.{ℕ, zero, suc, _+_, _*_, _≤_, _<_}
+use Prim.Native.Nat.{ℕ, _+_, _≤_, _<_}
 use native.Mathlib.Omega.{arith}
-use lib.Dec.{leb, eqb}
+use lib.Dec.{leb}
 use borrow.Author.Tests.{le-leb, lt-leb, leb-true}
-use lib.ListN.{length, take, drop, length-append}
+use lib.ListN.{length, length-append}
 use Rattle.lists.specs.Buffer.{over}
-use Rattle.xdr.specs.Read.{words, firstWord, size, whole, prepend, arrays, called, refused, counts, countAt, countsOf, wordsOf, readAnswer, readBuffer}
+use Rattle.xdr.specs.Read.{arrays, called, refused, counts, countAt, countsOf, wordsOf, readAnswer, readBuffer}
+use Rattle.xdr.proofs.Found.{length-arrays}
 
 -- THE COUNTS
--- as many arrays as were called for
-pub length-arrays : (n : ℕ) (l : List ℕ) (ls : List (List ℕ)) → arrays n l ≡ some ls → length ls ≡ n
-unfolding arrays
-length-arrays zero l ls e = go (eqb (length l) 0) e
-  where
-    go : (b : Bool) → cond b (some []) none ≡ some ls → length ls ≡ 0
-    go true p = cc
-    go false p = absurd (let z : _≡_ {A = ℕ} 0 1 = cc in omega arith)
-length-arrays (suc n) l ls e =
-    go (whole l) (arrays n (drop (size (firstWord l)) l)) (λ ms. length-arrays n (drop (size (firstWord l)) l) ms) e
-  where
-    go : (b : Bool) (found : Option (List (List ℕ))) → ((ms : List (List ℕ)) → found ≡ some ms → length ms ≡ n)
-        → cond b (prepend (words (take (4 * firstWord l) (drop 4 l))) found) none ≡ some ls → length ls ≡ suc n
-    go true none ih p = absurd (let z : _≡_ {A = ℕ} 0 1 = cc in omega arith)
-    go true (some ms) ih p = let q = ih ms refl in let r : length ls ≡ suc (length ms) = cc in omega arith
-    go false found ih p = absurd (let z : _≡_ {A = ℕ} 0 1 = cc in omega arith)
+refused-counts : {n a b c d : ℕ} → refused n ≡ counts a b c d → ⊥
+refused-counts e = let z : _≡_ {A = ℕ} 0 1 = cc in omega arith
 
 sum-counts : (ls : List (List ℕ)) → length ls ≤ 4 → length (flatten ls) ≡ countAt ls 0 + countAt ls 1 + countAt ls 2 + countAt ls 3
 unfolding flatten
@@ -55,7 +42,7 @@ counted n a b c d bytes e = range (leb 1 n && leb n 4) refl e
   where
     there : (all : Option (List (List ℕ))) → ((ls : List (List ℕ)) → all ≡ some ls → length ls ≤ 4) → counts a b c d ≡ countsOf all
         → IsSome all × (length (wordsOf all) ≡ a + b + c + d)
-    there none f p = absurd (let z : _≡_ {A = ℕ} 0 1 = cc in omega arith)
+    there none f p = absurd (refused-counts (sym p))
     there (some ls) f p =
         let p₀ : a ≡ countAt ls 0 = cc in
         let p₁ : b ≡ countAt ls 1 = cc in
@@ -64,7 +51,7 @@ counted n a b c d bytes e = range (leb 1 n && leb n 4) refl e
         (tt, omega (arith, sum-counts ls (f ls refl)))
 
     range : (t : Bool) → (leb 1 n && leb n 4) ≡ t → counts a b c d ≡ countsOf (cond t (arrays n bytes) none) → Counted n (a + b + c + d) bytes
-    range false q p = absurd (let z : _≡_ {A = ℕ} 0 1 = cc in omega arith)
+    range false q p = absurd (refused-counts (sym p))
     range true q p =
         let four : n ≤ 4 = leb-true n 4 (and-right (leb 1 n) (leb n 4) q) in
         let same : called n bytes ≡ arrays n bytes = ap (λ (t : Bool). cond t (arrays n bytes) none) q in
@@ -74,7 +61,7 @@ counted n a b c d bytes e = range (leb 1 n && leb n 4) refl e
 pub refused-none : (cause : ℕ) (found : Option (List (List ℕ))) → refused cause ≡ countsOf found → found ≡ none
 unfolding countsOf
 refused-none cause none e = refl
-refused-none cause (some ls) e = absurd (let z : _≡_ {A = ℕ} 0 1 = cc in omega arith)
+refused-none cause (some ls) e = absurd (refused-counts e)
 
 -- ANSWER AND BUFFER
 module _ (n : ℕ) (bytes buffer : List ℕ) where

@@ -51,7 +51,7 @@ abbrev pub behind : List ℕ → List ℕ
 behind l = drop (size (firstWord l)) l
 
 pub length-front : (l : List ℕ) → size (firstWord l) ≤ length l → length (front l) ≡ firstWord l
-length-front l h = length-words (firstWord l) (take (4 * firstWord l) (drop 4 l)) (simp (length-take, length-drop) (omega arith))
+length-front l h = length-words (take (4 * firstWord l) (drop 4 l)) ∙ simp (length-take, length-drop) (omega arith)
 
 -- ALL ARRAYS
 pub arrays-none : (n : ℕ) (l : List ℕ) → 0 < n → whole l ≡ false → arrays n l ≡ none
@@ -59,10 +59,17 @@ unfolding arrays
 arrays-none zero l h e = absurd (omega arith)
 arrays-none (suc n) l h e = rw e
 
-pub arrays-front : (n : ℕ) (l : List ℕ) → 0 < n → whole l ≡ true → arrays n l ≡ prepend (front l) (arrays (n - 1) (behind l))
+arrays-front : (n : ℕ) (l : List ℕ) → 0 < n → whole l ≡ true → arrays n l ≡ prepend (front l) (arrays (n - 1) (behind l))
 unfolding arrays
 arrays-front zero l h e = absurd (omega arith)
 arrays-front (suc n) l h e = rw (e, sub-one)
+
+-- the same at a place of the bytes
+arrays-at : (n : ℕ) (bytes : List ℕ) (at : ℕ) → 0 < n → whole (drop at bytes) ≡ true
+    → arrays n (drop at bytes) ≡ prepend (front (drop at bytes)) (arrays (n - 1) (drop (at + size (firstWord (drop at bytes))) bytes))
+arrays-at n bytes at h e =
+    arrays-front n (drop at bytes) h e
+    ∙ ap (λ (l : List ℕ). prepend (front (drop at bytes)) (arrays (n - 1) l)) (drop-drop (size (firstWord (drop at bytes))) at bytes)
 
 pub arrays-end : (n : ℕ) (l : List ℕ) → n ≡ 0 → length l ≡ 0 → arrays n l ≡ some []
 unfolding arrays
@@ -74,12 +81,34 @@ unfolding arrays
 arrays-left-over zero l h e = rw (ne-eqb (length l) 0 (λ p. omega arith))
 arrays-left-over (suc n) l h e = absurd (omega arith)
 
--- the same at a place of the bytes
-pub arrays-at : (n : ℕ) (bytes : List ℕ) (at : ℕ) → 0 < n → whole (drop at bytes) ≡ true
-    → arrays n (drop at bytes) ≡ prepend (front (drop at bytes)) (arrays (n - 1) (drop (at + size (firstWord (drop at bytes))) bytes))
-arrays-at n bytes at h e =
-    arrays-front n (drop at bytes) h e
-    ∙ ap (λ (l : List ℕ). prepend (front (drop at bytes)) (arrays (n - 1) l)) (drop-drop (size (firstWord (drop at bytes))) at bytes)
+none-some : {A : Type 0} {x : A} → none ≡ some x → ⊥
+none-some e = let z : _≡_ {A = ℕ} 0 1 = cc in omega arith
+
+-- What is found, taken apart: none are called for and no bytes are left, or one stands at the front and the others behind it.
+pub found-none : (l : List ℕ) (ls : List (List ℕ)) → arrays 0 l ≡ some ls → (l ≡ []) × (ls ≡ [])
+unfolding arrays
+found-none [] ls e = (refl, cc)
+found-none (x ∷ l) ls e = absurd (none-some (sym (arrays-left-over 0 (x ∷ l) refl (omega arith)) ∙ e))
+
+pub record Found (n : ℕ) (l : List ℕ) (ls : List (List ℕ)) : Type 0 where
+  pub fit : whole l ≡ true
+  pub others : List (List ℕ)
+  pub rest : arrays n (behind l) ≡ some others
+  pub all : ls ≡ front l ∷ others
+
+pub found-more : (n : ℕ) (l : List ℕ) (ls : List (List ℕ)) → arrays (suc n) l ≡ some ls → Found n l ls
+unfolding arrays
+found-more n l ls e = go (whole l) (arrays n (behind l)) refl refl e
+  where
+    go : (b : Bool) (found : Option (List (List ℕ))) → whole l ≡ b → arrays n (behind l) ≡ found
+        → cond b (prepend (front l) found) none ≡ some ls → Found n l ls
+    go true none f g q = absurd (none-some q)
+    go true (some ms) f g q = record { fit = f; others = ms; rest = g; all = cc }
+    go false found f g q = absurd (none-some q)
+
+pub length-arrays : (n : ℕ) (l : List ℕ) (ls : List (List ℕ)) → arrays n l ≡ some ls → length ls ≡ n
+length-arrays zero l ls e = ap length (found-none l ls e .1)
+length-arrays (suc n) l ls e = let f = found-more n l ls e in ap length (f .all) ∙ ap suc (length-arrays n (behind l) (f .others) (f .rest))
 
 pub called-none : (n : ℕ) (l : List ℕ) → (n < 1) ⊎ (4 < n) → called n l ≡ none
 unfolding called
@@ -95,7 +124,7 @@ unfolding countsOf
 refused-found e = rw e
 
 -- where all arrays are there, so is the one at the front
-pub whole-some : (n : ℕ) (l : List ℕ) → 0 < n → IsSome (arrays n l) → whole l ≡ true
+whole-some : (n : ℕ) (l : List ℕ) → 0 < n → IsSome (arrays n l) → whole l ≡ true
 whole-some n l h s = go (whole l) refl
   where
     go : (b : Bool) → whole l ≡ b → whole l ≡ true
@@ -157,7 +186,7 @@ pub after-nil : (found : Option (List (List ℕ))) → after [] found ≡ found
 after-nil none = refl
 after-nil (some ls) = refl
 
-pub after-prepend : (done : List (List ℕ)) (ws : List ℕ) (found : Option (List (List ℕ)))
+after-prepend : (done : List (List ℕ)) (ws : List ℕ) (found : Option (List (List ℕ)))
     → after done (prepend ws found) ≡ after (done ++ (ws ∷ [])) found
 after-prepend done ws none = refl
 after-prepend done ws (some ls) = ap some (sym (append-assoc done (ws ∷ []) ls))

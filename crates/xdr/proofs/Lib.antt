@@ -1,4 +1,4 @@
-pub mod Words
+mod Words
 pub mod Found
 pub mod Answers
 pub mod RoundTrip

@@ -1,23 +1,20 @@
 -- Arrays that are encoded are found again, and bytes that hold arrays are their encoding: a word and its four bytes give each other,
 -- and so word by word and array by array.
 -- Assumes nothing.
-use mathlib.Core.Path.{_≡_, refl, sym, ap, ap₂, _∙_, subst}
-use mathlib.Core.Bool.{Bool, true, false, cond}
-use mathlib.Core.Option.{Option, none, some}
+use mathlib.Core.Path.{_≡_, refl, sym, ap, ap₂, _∙_}
+use mathlib.Core.Bool.{true}
+use mathlib.Core.Option.{some}
 use mathlib.Core.List.{List, [], _∷_, _++_, flatMap, append-assoc}
 use Prim.Native.Nat.{ℕ, zero, suc, _+_, _*_, _/_, _%_, _^_, _≤_, _<_}
 use native.Mathlib.Nat.{div-div-eq-div-mul, div-add-mod', mod-eq-of-lt}
 use native.Mathlib.Omega.{arith}
 use lib.ListN.{length, take, drop, length-append, length-take, length-drop, take-append-drop}
-use lib.Dec.{eqb}
-use borrow.Author.Tests.{eqb-true}
 use lib.Seq.{take-at, drop-at, drop-drop}
 use Rattle.lists.specs.Each.{All}
 use Rattle.xdr.specs.Read.{word, words, firstWord, size, whole, prepend, arrays}
 use Rattle.xdr.specs.Encode.{bytesOf, encodeArray, encode}
 use Rattle.xdr.specs.Theorems.{Legal, RoundTrip, OnlyEncodings}
-use Rattle.xdr.proofs.Found.{front, behind, whole-yes, whole-fits, length-front}
-use Rattle.xdr.proofs.Answers.{length-arrays}
+use Rattle.xdr.proofs.Found.{front, behind, whole-yes, whole-fits, length-front, found-none, found-more, length-arrays}
 
 -- A WORD AND ITS BYTES
 word-of-bytes : (w : ℕ) → w < 2 ^ 32 → word (w / 16777216 % 256) (w / 65536 % 256) (w / 256 % 256) (w % 256) ≡ w
@@ -66,7 +63,7 @@ length-array ws = let e = length-encoded ws in omega arith
 -- AN ARRAY AT THE FRONT
 module _ (ws rest : List ℕ) (h : Legal ws) where
   front-count : firstWord (encodeArray ws ++ rest) ≡ length ws
-  unfolding firstWord encodeArray bytesOf
+  unfolding firstWord words encodeArray bytesOf
   front-count = word-of-bytes (length ws) (omega arith)
 
   front-drop : drop 4 (encodeArray ws ++ rest) ≡ flatMap bytesOf ws ++ rest
@@ -130,7 +127,7 @@ encoded-words (suc n) (a ∷ b ∷ c ∷ d ∷ l) e h =
     (encoded-words n l (omega arith) (h .1 .1 .1 .1))
 
 count-bytes : (l : List ℕ) → 4 ≤ length l → Bytes l → bytesOf (firstWord l) ++ drop 4 l ≡ l
-unfolding firstWord
+unfolding firstWord words
 count-bytes [] e h = absurd (omega arith)
 count-bytes (a ∷ []) e h = absurd (omega arith)
 count-bytes (a ∷ b ∷ []) e h = absurd (omega arith)
@@ -162,31 +159,13 @@ module _ (l : List ℕ) (f : whole l ≡ true) (h : Bytes l) where
 
 -- what the arrays that were found are encoded as
 encoded : (n : ℕ) (bytes : List ℕ) (ls : List (List ℕ)) → Bytes bytes → arrays n bytes ≡ some ls → All Legal ls × (bytes ≡ encode ls)
-unfolding arrays encode flatMap
-encoded zero bytes ls h e = go (eqb (length bytes) 0) refl e
-  where
-    nil : (l : List ℕ) → length l ≡ 0 → l ≡ []
-    nil [] p = refl
-    nil (x ∷ l) p = absurd (omega arith)
-
-    go : (b : Bool) → eqb (length bytes) 0 ≡ b → cond b (some []) none ≡ some ls → All Legal ls × (bytes ≡ encode ls)
-    go true p q =
-        let same : _≡_ {A = List (List ℕ)} [] ls = cc in
-        subst (λ (ms : List (List ℕ)). All Legal ms × (bytes ≡ encode ms)) same (tt, nil bytes (eqb-true (length bytes) 0 p))
-    go false p q = absurd (let z : _≡_ {A = ℕ} 0 1 = cc in omega arith)
+unfolding encode flatMap
+encoded zero bytes ls h e = let f = found-none bytes ls e in rw (f .0, f .1) (tt, refl)
 encoded (suc n) bytes ls h e =
-    go (whole bytes) (arrays n (behind bytes)) refl (λ ms p. encoded n (behind bytes) ms (all-drop _ (size (firstWord bytes)) bytes h) p) e
-  where
-    go : (b : Bool) (found : Option (List (List ℕ))) → whole bytes ≡ b
-        → ((ms : List (List ℕ)) → found ≡ some ms → All Legal ms × (behind bytes ≡ encode ms))
-        → cond b (prepend (front bytes) found) none ≡ some ls → All Legal ls × (bytes ≡ encode ls)
-    go true none f ih q = absurd (let z : _≡_ {A = ℕ} 0 1 = cc in omega arith)
-    go true (some ms) f ih q =
-        let r = ih ms refl in
-        let one = front-encoded bytes f h ∙ ap (λ (t : List ℕ). encodeArray (front bytes) ++ t) (r .1) in
-        let same : front bytes ∷ ms ≡ ls = cc in
-        subst (λ (us : List (List ℕ)). All Legal us × (bytes ≡ encode us)) same ((front-legal bytes f h, r .0), one)
-    go false found f ih q = absurd (let z : _≡_ {A = ℕ} 0 1 = cc in omega arith)
+    let f = found-more n bytes ls e in
+    let r = encoded n (behind bytes) (f .others) (all-drop _ (size (firstWord bytes)) bytes h) (f .rest) in
+    rw (f .all)
+    ((front-legal bytes (f .fit) h, r .0), front-encoded bytes (f .fit) h ∙ ap (λ (t : List ℕ). encodeArray (front bytes) ++ t) (r .1))
 
 pub only-encodings : OnlyEncodings
 only-encodings n bytes ls h e = let r = encoded n bytes ls h e in (length-arrays n bytes ls e, r .0, r .1)

@@ -25,9 +25,9 @@ words (a ∷ b ∷ []) = []
 words (a ∷ b ∷ c ∷ []) = []
 words (a ∷ b ∷ c ∷ d ∷ l) = word a b c d ∷ words l
 
--- the first word of a list of bytes, an array's count
+-- the first word of a list of bytes, an array's count; 0 where there is none
 unfoldable pub firstWord : List ℕ → ℕ
-firstWord l = word (getD l 0 0) (getD l 1 0) (getD l 2 0) (getD l 3 0)
+firstWord l = getD (words l) 0 0
 
 -- ARRAYS
 -- the bytes of an array of so many words, its count included

@@ -3,8 +3,8 @@ use refusal::Cause;
 ghost use mathlib.Core.Path.{_≡_};
 ghost use mathlib.Core.Bool.{cond};
 ghost use mathlib.Core.Option.{IsSome};
-ghost use Prim.Native.Nat.{_+_, _*_, _≤_, _<_};
-ghost use lib.ListN.{length, drop};
+ghost use Prim.Native.Nat.{_+_, _/_, _≤_, _<_, min};
+ghost use lib.ListN.{length, take, drop};
 ghost use Rattle.lists.specs.Buffer.{over};
 ghost use Rattle.xdr.specs.Read.{firstWord, words, whole, arrays, called, answerOf, countsOf, wordsOf, readAnswer, readBuffer};
 
@@ -35,8 +35,8 @@ fn wide(byte: u8) -> u32
     byte as u32
 }
 
-// The word at a place.
-fn word_at(bytes: &[u8], at: usize) -> u32
+// The word at a place where there is one, high byte first.
+fn word_within(bytes: &[u8], at: usize) -> u32
     requires { ⌜ at + 4 ≤ length (now bytes) ⌝ }
     ensures { λ r. ⌜ r ≡ firstWord (drop at (now (bytes .entry))) ⌝ }
 {
@@ -47,18 +47,30 @@ fn word_at(bytes: &[u8], at: usize) -> u32
     ((a * 256 + b) * 256 + c) * 256 + d
 }
 
-// Writes the words that the bytes hold to the front of the buffer.
-fn copy_words(bytes: &[u8], buffer: &mut [u32])
-    requires { ⌜ length (now bytes) ≤ 4 * length (now buffer) ⌝ }
-    ensures { λ r. ⌜ now (buffer .exit) ≡ over (words (now (bytes .entry))) (now (buffer .entry)) ⌝ }
+// The word at a place; 0 where fewer than four bytes stand there.
+pub fn word_at(bytes: &[u8], at: usize) -> u32
+    ensures { λ r. ⌜ r ≡ firstWord (drop at (now (bytes .entry))) ⌝ }
 {
-    let mut at = 0;
-    let mut i = 0;
-    while 4 <= bytes.len() - at {
-        buffer[i] = word_at(bytes, at);
-        at += 4;
-        i += 1;
+    if bytes.len() < 4 {
+        return 0;
     }
+    if bytes.len() - 4 < at {
+        return 0;
+    }
+    word_within(bytes, at)
+}
+
+// Writes the words that the bytes hold over the front of a buffer, as many as it holds, and answers how many.
+pub fn put_words(bytes: &[u8], buffer: &mut [u32]) -> usize
+    ensures count { λ r. ⌜ r ≡ min (length (now (bytes .entry)) / 4) (length (now (buffer .entry))) ⌝ }
+    ensures words { λ _. ⌜ now (buffer .exit) ≡
+        over (take (length (now (buffer .entry))) (words (now (bytes .entry)))) (now (buffer .entry)) ⌝ }
+{
+    let count = lists::least(bytes.len() / 4, buffer.len());
+    for i in 0..count {
+        buffer[i] = word_within(bytes, 4 * i);
+    }
+    count
 }
 
 // Writes the words of all arrays, which the bytes are known to hold, to the front of the buffer.
@@ -73,7 +85,7 @@ fn write(bytes: &[u8], number: u32, buffer: &mut [u32])
         let count = word_at(bytes, at) as usize;
         let start = at + 4;
         at = start + 4 * count;
-        copy_words(&bytes[start..at], &mut buffer[to..]);
+        put_words(&bytes[start..at], &mut buffer[to..]);
         to += count;
         left -= 1;
     }
@@ -84,15 +96,11 @@ fn front_at(bytes: &[u8], at: usize) -> Front
     requires { ⌜ at ≤ length (now bytes) ⌝ }
     ensures { λ r. ⌜ r ≡ cond (whole (drop at (now (bytes .entry)))) (Front.Count (firstWord (drop at (now (bytes .entry))))) Front.Unfit ⌝ }
 {
-    let left = bytes.len() - at;
-    if left < 4 {
-        return Front::Unfit;
-    }
     let count = word_at(bytes, at);
     if MAX_COUNT < count {
         return Front::Unfit;
     }
-    if left - 4 < 4 * count as usize {
+    if bytes.len() - at < 4 + 4 * count as usize {
         return Front::Unfit;
     }
     Front::Count(count)

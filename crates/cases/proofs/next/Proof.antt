@@ -15,11 +15,11 @@ slice-aggregate-read-full c = search needs
 read-full-requires : tie.Need-read-full-requires
 read-full-requires c κs = search needs
 
-slice-aggregate-word : tie.Need-slice-aggregate-word
-slice-aggregate-word c = search needs
+slice-aggregate-word-at : tie.Need-slice-aggregate-word-at
+slice-aggregate-word-at c = search needs
 
-word-requires : tie.Need-word-requires
-word-requires c κs = search needs
+word-at-requires : tie.Need-word-at-requires
+word-at-requires c κs = search needs
 
 cast-least : tie.Need-cast-least
 cast-least c = search needs
@@ -54,8 +54,8 @@ next-spec =
     (tie.spec
     slice-aggregate-read-full
     read-full-requires
-    slice-aggregate-word
-    word-requires
+    slice-aggregate-word-at
+    word-at-requires
     cast-least
     least-requires
     slice-relend-prefix-read-full

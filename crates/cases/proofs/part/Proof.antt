@@ -1,32 +1,15 @@
--- `part` meets its contract: it is what stands between its length and the place behind it.
+-- `part` meets its contract: the part from the first place to the second, both moved into the list.
 -- Assumes nothing.
-use native.Mathlib.Omega.{arith}
-use Rattle.cases.proofs.Reading.{part-none, part-here}
+use Rattle.cases.proofs.Reading.{between-clipped}
 use borrow.Author.Needs.{needs}
 use Rattle.cases.proofs.part.Statement.{statement}
 use Rattle.cases.proofs.part.Tie as tie
 
-past-requires : tie.Need-past-requires
-past-requires c κs = search needs
+least-requires : tie.Need-least-requires
+least-requires c κs = search needs
 
-slice-aggregate-result : tie.Need-slice-aggregate-result
-slice-aggregate-result c = search needs
-
-returns : tie.Need-returns
-returns c =
-    let args = c .before .before .before .before .args in
-    part-none (args .bytes .now) (args .at) (omega arith)
-
-slice-aggregate-result-2 : tie.Need-slice-aggregate-result-2
-slice-aggregate-result-2 c = search needs
-
-returns-2 : tie.Need-returns-2
-returns-2 c =
-    let args = c .before .before .before .before .before .args in
-    part-none (args .bytes .now) (args .at) (omega arith)
-
-add-start : tie.Need-add-start
-add-start c = search needs
+least-requires-2 : tie.Need-least-requires-2
+least-requires-2 c κs = search needs
 
 sub-result : tie.Need-sub-result
 sub-result c = search needs
@@ -37,23 +20,13 @@ part-result-start c = search needs
 part-result-end : tie.Need-part-result-end
 part-result-end c = search needs
 
-returns-3 : tie.Need-returns-3
-returns-3 c =
-    let args = c .before .before .before .before .before .args in
-    let e = c .before .before .before .past .ensures .0 in
-    rw e (part-here (args .bytes .now) (args .at) (omega arith))
+returns : tie.Need-returns
+returns c =
+    let to = c .before .before .least in
+    let args = c .before .before .before .before .args in
+    between-clipped (args .start) (args .end) (c .before .least2 .result) (to .result) (args .bytes .now) (to .ensures) (c .before .least2 .ensures)
 
 pub part-spec : {M : Type 1} → statement M
 part-spec =
     tie.close
-    (tie.spec
-    past-requires
-    slice-aggregate-result
-    returns
-    slice-aggregate-result-2
-    returns-2
-    add-start
-    sub-result
-    part-result-start
-    part-result-end
-    returns-3)
+    (tie.spec least-requires least-requires-2 sub-result part-result-start part-result-end returns)

@@ -1,6 +1,8 @@
 -- `front_at` meets its contract: each refusal is a test of `whole` that fails.
 -- Assumes nothing.
 use mathlib.Core.Path.{ap}
+use mathlib.Core.List.{List}
+use Prim.Native.Nat.{ℕ}
 use Rattle.xdr.specs.declared.Front.the-variants.{Count}
 use native.Mathlib.Omega.{arith}
 use lib.ListN.{drop, length-drop}
@@ -9,39 +11,36 @@ use borrow.Author.Needs.{needs}
 use Rattle.xdr.proofs.front_at.Statement.{statement}
 use Rattle.xdr.proofs.front_at.Tie as tie
 
-sub-left : tie.Need-sub-left
-sub-left c = search needs
-
-returns : tie.Need-returns
-returns c =
-    let l = drop (c .before .before .args .at) (c .before .before .args .bytes .now) in
-    rw (whole-short l (simp length-drop (omega arith)))
+-- the bytes from the place on
+abbrev ahead : tie.After-word-at → List ℕ
+ahead read = drop (read .before .before .args .at) (read .before .before .args .bytes .now)
 
 word-at-requires : tie.Need-word-at-requires
 word-at-requires c κs = search needs
 
+returns : tie.Need-returns
+returns c = rw (whole-large (ahead (c .before)) (omega arith))
+
+sub-if2 : tie.Need-sub-if2
+sub-if2 c = search needs
+
+cast-if2 : tie.Need-cast-if2
+cast-if2 c = search needs
+
+mul-if2 : tie.Need-mul-if2
+mul-if2 c = search needs
+
+add-if2 : tie.Need-add-if2
+add-if2 c = search needs
+
 returns-2 : tie.Need-returns-2
-returns-2 c =
-    let l = drop (c .before .before .before .before .args .at) (c .before .before .before .before .args .bytes .now) in
-    rw (whole-large l (omega arith))
-
-cast-if3 : tie.Need-cast-if3
-cast-if3 c = search needs
-
-mul-if3 : tie.Need-mul-if3
-mul-if3 c = search needs
+returns-2 c = rw (whole-short (ahead (c .before .before)) (simp length-drop (omega arith)))
 
 returns-3 : tie.Need-returns-3
 returns-3 c =
-    let l = drop (c .before .before .before .before .before .args .at) (c .before .before .before .before .before .args .bytes .now) in
-    rw (whole-short l (simp length-drop (omega arith)))
-
-returns-4 : tie.Need-returns-4
-returns-4 c =
-    let l = drop (c .before .before .before .before .before .args .at) (c .before .before .before .before .before .args .bytes .now) in
-    rw (whole-yes l (omega arith) (simp length-drop (omega arith))) (ap Count (c .before .before .word-at .ensures))
+    rw (whole-yes (ahead (c .before .before)) (omega arith) (simp length-drop (omega arith))) (ap Count (c .before .before .word-at .ensures))
 
 pub front-at-spec : {M : Type 1} → statement M
 front-at-spec =
     tie.close
-    (tie.spec sub-left returns word-at-requires returns-2 cast-if3 mul-if3 returns-3 returns-4)
+    (tie.spec word-at-requires returns sub-if2 cast-if2 mul-if2 add-if2 returns-2 returns-3)

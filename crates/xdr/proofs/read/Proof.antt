@@ -14,21 +14,27 @@ use Rattle.xdr.proofs.read.Statement.{statement}
 use Rattle.xdr.proofs.read.Tie as tie
 
 -- what the scan's answer says where it is counts
-counts-at :
-    (told : tie.After-found)
-    → counts (told .found .given .0 .0) (told .found .given .0 .1 .0) (told .found .given .0 .1 .1 .0) (told .found .given .0 .1 .1 .1 .0)
-    ≡ countsOf (called (told .before .before .before .before .before .args .number) (told .before .before .before .before .before .args .bytes .now))
-counts-at told = ap answerOf (sym (told .found .given .1)) ∙ told .before .before .scan .ensures
+abbrev start : tie.After-found → tie.Start
+start told = told .before .before .before .before .before
 
-counted-at :
-    (told : tie.After-found)
-    → Counted (told .before .before .before .before .before .args .number)
-    (told .found .given .0 .0 + told .found .given .0 .1 .0 + told .found .given .0 .1 .1 .0 + told .found .given .0 .1 .1 .1 .0)
-    (told .before .before .before .before .before .args .bytes .now)
-counted-at told =
-    let start = told .before .before .before .before .before in
-    let all = told .found .given .0 in
-    counted (start .args .number) (all .0) (all .1 .0) (all .1 .1 .0) (all .1 .1 .1 .0) (start .args .bytes .now) (counts-at told)
+module _ (told : tie.After-found) where
+  abbrev first : ℕ
+  first = told .found .given .0 .0
+
+  abbrev second : ℕ
+  second = told .found .given .0 .1 .0
+
+  abbrev third : ℕ
+  third = told .found .given .0 .1 .1 .0
+
+  abbrev fourth : ℕ
+  fourth = told .found .given .0 .1 .1 .1 .0
+
+  counts-at : counts first second third fourth ≡ countsOf (called (start told .args .number) (start told .args .bytes .now))
+  counts-at = ap answerOf (sym (told .found .given .1)) ∙ told .before .before .scan .ensures
+
+  counted-at : Counted (start told .args .number) (first + second + third + fourth) (start told .args .bytes .now)
+  counted-at = counted (start told .args .number) first second third fourth (start told .args .bytes .now) counts-at
 
 scan-requires : tie.Need-scan-requires
 scan-requires c κs = search needs
@@ -42,11 +48,11 @@ enum-told c = search needs
 returns : tie.Need-returns
 returns c =
     let scanned = c .before .before in
-    let start = scanned .before .before .before in
-    let n = start .args .number in
-    let bytes = start .args .bytes .now in
+    let args = scanned .before .before .before .args in
+    let n = args .number in
+    let bytes = args .bytes .now in
     let e = scanned .scan .ensures in
-    let left = read-none n bytes (start .args .buffer .now) (refused-none _ (called n bytes) (ap answerOf (sym (c .enum-told .given .1)) ∙ e)) in
+    let left = read-none n bytes (args .buffer .now) (refused-none _ (called n bytes) (ap answerOf (sym (c .enum-told .given .1)) ∙ e)) in
     (e ∙ left .0, left .1)
 
 cast-total : tie.Need-cast-total
@@ -72,9 +78,9 @@ add-total-3 c = search needs
 
 returns-2 : tie.Need-returns-2
 returns-2 c =
-    let start = c .before .before .before .before .before .before .before in
+    let args = start (c .before .before) .args in
     let k = counted-at (c .before .before) in
-    read-short (start .args .number) (start .args .bytes .now) (start .args .buffer .now) (omega arith)
+    read-short (args .number) (args .bytes .now) (args .buffer .now) (omega arith)
 
 write-requires : tie.Need-write-requires
 write-requires c κs =
@@ -87,10 +93,10 @@ same-length c = search needs
 returns-3 : tie.Need-returns-3
 returns-3 c =
     let told = c .before .before .before .before .before .before in
-    let start = told .before .before .before .before .before in
-    let buffer = start .args .buffer .now in
+    let args = start told .args in
+    let buffer = args .buffer .now in
     let k = counted-at told in
-    let w = read-whole (start .args .number) (start .args .bytes .now) buffer (omega arith) in
+    let w = read-whole (args .number) (args .bytes .now) buffer (omega arith) in
     (counts-at told ∙ w .0, c .before .before .write .ensures ∙ ap (λ (f : Option (List (List ℕ))). over (wordsOf f) buffer) (sym (k .same)) ∙ w .1)
 
 pub read-spec : {M : Type 1} → statement M

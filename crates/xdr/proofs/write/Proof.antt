@@ -7,9 +7,9 @@ use Prim.Native.Nat.{ℕ, _+_, _-_, _≤_}
 use native.Mathlib.Omega.{arith}
 use lib.ListN.{length, drop, take, length-append, length-drop, length-take}
 use Rattle.lists.specs.Buffer.{over}
-use Rattle.lists.proofs.Buffer.{over-more, length-over}
+use Rattle.lists.proofs.Buffer.{over-more, over-whole, length-over}
 use Rattle.xdr.specs.Read.{arrays, wordsOf}
-use Rattle.xdr.proofs.Found.{front, whole-fits, whole-some, Step, step, words-none}
+use Rattle.xdr.proofs.Found.{front, Step, step, words-none}
 use borrow.Author.Needs.{needs}
 use Rattle.xdr.proofs.write.Statement.{statement}
 use Rattle.xdr.proofs.write.Tie as tie
@@ -23,26 +23,28 @@ Inv-loop bytes number buffer₀ at₀ to₀ left₀ buffer at to left =
 abbrev μ-loop : tie.MeasureT-loop
 μ-loop bytes number buffer₀ at₀ to₀ left₀ buffer at to left = left
 
--- the array at the loop's place, once its count is read
-step-at :
-    (read : tie.After-word-at Inv-loop μ-loop)
-    → Step (read .before .before .loop .left) (read .before .before .loop .at) (read .word-at .result)
-    (read .before .before .before .before .before .args .bytes .now)
+-- where the loop stands, and the array there, once its count is read
+abbrev Here : Type 0
+Here = tie.At-loop Inv-loop μ-loop
+
+abbrev start : Here → tie.Start Inv-loop μ-loop
+start o = o .before .before .before
+
+abbrev at-loop : tie.After-word-at Inv-loop μ-loop → Here
+at-loop read = read .before .before
+
+step-at : (read : tie.After-word-at Inv-loop μ-loop)
+    → Step (at-loop read .loop .left) (at-loop read .loop .at) (read .word-at .result) (start (at-loop read) .args .bytes .now)
 step-at read =
-    let here = read .before .before .loop in
-    step (here .left) (here .at) (read .word-at .result) (read .before .before .before .before .before .args .bytes .now)
-    (read .before .loop-test .taken) (here .inv .2) (here .inv .6) (read .word-at .ensures)
+    let here = at-loop read .loop in
+    step (here .left) (here .at) (read .word-at .result) (start (at-loop read) .args .bytes .now) (read .before .loop-test .taken)
+    (here .inv .2) (here .inv .6) (read .word-at .ensures)
 
 loop-holds : tie.Need-loop-holds Inv-loop μ-loop
 loop-holds c = ([], refl, search needs, refl, refl, search needs, c .before .before .pre .0, refl)
 
 word-at-requires : tie.Need-word-at-requires Inv-loop μ-loop
-word-at-requires c κs =
-    let here = c .before in
-    let bytes = here .before .before .before .args .bytes .now in
-    let l = drop (here .loop .at) bytes in
-    let fits = whole-fits l (whole-some (here .loop .left) l (c .loop-test .taken) (here .loop .inv .6)) .1 in
-    omega (arith, fits, length-drop (here .loop .at) bytes)
+word-at-requires c κs = search needs
 
 cast-count : tie.Need-cast-count Inv-loop μ-loop
 cast-count c = search needs
@@ -56,29 +58,29 @@ mul-at c = search needs
 add-at : tie.Need-add-at Inv-loop μ-loop
 add-at c = search needs
 
-sub-copy-words : tie.Need-sub-copy-words Inv-loop μ-loop
-sub-copy-words c = search needs
+sub-put-words : tie.Need-sub-put-words Inv-loop μ-loop
+sub-put-words c = search needs
 
-part-copy-words-start : tie.Need-part-copy-words-start Inv-loop μ-loop
-part-copy-words-start c = search needs
+part-put-words-start : tie.Need-part-put-words-start Inv-loop μ-loop
+part-put-words-start c = search needs
 
-part-copy-words-end : tie.Need-part-copy-words-end Inv-loop μ-loop
-part-copy-words-end c = let s = step-at c in omega arith
+part-put-words-end : tie.Need-part-put-words-end Inv-loop μ-loop
+part-put-words-end c = let s = step-at c in omega arith
 
-mul-copy-words : tie.Need-mul-copy-words Inv-loop μ-loop
-mul-copy-words c = search needs
+mul-put-words : tie.Need-mul-put-words Inv-loop μ-loop
+mul-put-words c = search needs
 
-sub-copy-words-2 : tie.Need-sub-copy-words-2 Inv-loop μ-loop
-sub-copy-words-2 c = search needs
+sub-put-words-2 : tie.Need-sub-put-words-2 Inv-loop μ-loop
+sub-put-words-2 c = search needs
 
-part-copy-words-start-2 : tie.Need-part-copy-words-start-2 Inv-loop μ-loop
-part-copy-words-start-2 c = search needs
+part-put-words-start-2 : tie.Need-part-put-words-start-2 Inv-loop μ-loop
+part-put-words-start-2 c = search needs
 
-part-copy-words-end-2 : tie.Need-part-copy-words-end-2 Inv-loop μ-loop
-part-copy-words-end-2 c = search needs
+part-put-words-end-2 : tie.Need-part-put-words-end-2 Inv-loop μ-loop
+part-put-words-end-2 c = search needs
 
-copy-words-requires : tie.Need-copy-words-requires Inv-loop μ-loop
-copy-words-requires c κs = let s = step-at (c .before .before) in simp (length-take, length-drop) (omega arith)
+put-words-requires : tie.Need-put-words-requires Inv-loop μ-loop
+put-words-requires c κs = search needs
 
 add-to : tie.Need-add-to Inv-loop μ-loop
 add-to c = let s = step-at (c .before .before .before .before .before) in search needs
@@ -92,15 +94,15 @@ loop-less c = search needs
 loop-again : tie.Need-loop-again Inv-loop μ-loop
 loop-again c =
     let read = c .before .before .before .before .before in
-    let here = read .before .before in
+    let here = at-loop read in
     let inv = here .loop .inv in
     let s = step-at read in
-    let start = here .before .before .before in
-    let buffer = start .args .buffer .now in
-    let ws = front (drop (here .loop .at) (start .args .bytes .now)) in
+    let buffer = start here .args .buffer .now in
+    let ws = front (drop (here .loop .at) (start here .args .bytes .now)) in
     let lent = take (length (here .loop .buffer) - here .loop .to) (drop (here .loop .to) (here .loop .buffer)) in
-    let call = c .before .before .copy-words in
-    let part = call .ensures ∙ ap (λ (ms : List ℕ). over ms lent) (s .part) in
+    let call = c .before .before .put-words in
+    let room : length ws ≤ length lent = simp (length-take, length-drop) (omega arith) in
+    let part = over-whole ws lent _ room (rw (s .part) at (call .ensures .1)) in
     let now = over-more (inv .0) ws buffer (here .loop .buffer) (call .last .1 .0) (here .loop .to) (inv .3) (inv .1) part (omega arith) in (
       inv .0 ++ ws,
       simp length-append (omega arith),
@@ -118,11 +120,10 @@ same-length c = search needs
 returns : tie.Need-returns Inv-loop μ-loop
 returns c =
     let here = c .before in
-    let start = here .before .before .before in
     let inv = here .loop .inv in
-    let none = words-none (here .loop .left) (drop (here .loop .at) (start .args .bytes .now)) (omega arith) in
+    let none = words-none (here .loop .left) (drop (here .loop .at) (start here .args .bytes .now)) (omega arith) in
     inv .3
-    ∙ ap (λ (ms : List ℕ). over ms (start .args .buffer .now)) (sym (inv .7 ∙ ap (λ (t : List ℕ). inv .0 ++ t) none ∙ append-nil (inv .0)))
+    ∙ ap (λ (ms : List ℕ). over ms (start here .args .buffer .now)) (sym (inv .7 ∙ ap (λ (t : List ℕ). inv .0 ++ t) none ∙ append-nil (inv .0)))
 
 pub write-spec : {M : Type 1} → statement M
 write-spec =
@@ -136,14 +137,14 @@ write-spec =
     add-start
     mul-at
     add-at
-    sub-copy-words
-    part-copy-words-start
-    part-copy-words-end
-    mul-copy-words
-    sub-copy-words-2
-    part-copy-words-start-2
-    part-copy-words-end-2
-    copy-words-requires
+    sub-put-words
+    part-put-words-start
+    part-put-words-end
+    mul-put-words
+    sub-put-words-2
+    part-put-words-start-2
+    part-put-words-end-2
+    put-words-requires
     add-to
     sub-left
     loop-less

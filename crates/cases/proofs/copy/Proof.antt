@@ -1,0 +1,32 @@
+-- `copy` meets its contract: the buffer is as long as before, so it has the words that are counted.
+-- Assumes nothing.
+use mathlib.Core.Path.{refl, sym}
+use Prim.Native.Nat.{_≤_}
+use native.Mathlib.Omega.{arith}
+use lib.ListN.{length}
+use lib.Seq.{length-take-le}
+use Rattle.lists.proofs.Buffer.{put-size}
+use borrow.Author.Needs.{needs}
+use Rattle.cases.proofs.copy.Statement.{statement}
+use Rattle.cases.proofs.copy.Tie as tie
+
+least-requires : tie.Need-least-requires
+least-requires c κs = search needs
+
+put-requires : tie.Need-put-requires
+put-requires c κs = search needs
+
+same-length : tie.Need-same-length
+same-length c = search needs
+
+returns : tie.Need-returns
+returns c =
+    let put = c .before .before .put in
+    let n = c .before .before .before .before .least in
+    let args = c .before .before .before .before .before .before .before .args in
+    let size = put-size (args .words .now) (args .buffer .now) _ _ refl (put .ensures) in
+    let short : n .result ≤ length (put .last .0) = omega arith in
+    ((short, sym (length-take-le (n .result) (put .last .0) short)), (n .ensures, put .ensures))
+
+pub copy-spec : {M : Type 1} → statement M
+copy-spec = tie.close (tie.spec least-requires put-requires same-length returns)
