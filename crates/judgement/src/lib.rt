@@ -4,18 +4,12 @@ use extension::MAX_COORDINATES;
 use field::Field;
 use refusal::Cause;
 use refusal::Checked;
-ghost use mathlib.Core.Path.{_≡_};
-ghost use Prim.Native.Nat.{_*_};
-ghost use lib.ListN.{length};
-ghost use Rattle.refusal.specs.Number.{causeOf};
-ghost use Rattle.circuit.specs.Circuit.{exponentAt};
-ghost use Rattle.protocol.specs.Rounds.{place, isLine, AtRound};
-ghost use Rattle.protocol.specs.Judge.{fixed, pointAt, lineClaim, compared, judge, inputAgrees};
-ghost use Rattle.protocol.specs.Check.{Counted};
+ghost use Rattle.protocol.specs.Rounds.{place};
+ghost use Rattle.judgement.specs.Judged.{ClaimsLine, Compares, Judges, ComparesLast};
 
 // The summand at the two points of a layer's line, with x and y for what the line gives at its ends.
 fn line_claim(circuit: &[u32], layer: usize, past: &[u32], x: u32, y: u32) -> u32
-    ensures { λ r. ⌜ (AtRound (now (circuit .entry)) (place layer (2 * exponentAt (now (circuit .entry)) layer)) (length (now (past .entry))) → r ≡ lineClaim (now (circuit .entry)) layer (pointAt (now (circuit .entry)) layer (now (past .entry))) (fixed (now (circuit .entry)) layer (now (past .entry))) x y) ⌝ }
+    ensures { λ r. ⌜ ClaimsLine (now (circuit .entry)) layer (now (past .entry)) x y r ⌝ }
 {
     let round = 2 * layout::exponent(circuit, layer) as usize;
     let s = standing::at_round(circuit, layer, round, past);
@@ -38,7 +32,7 @@ fn line_claim(circuit: &[u32], layer: usize, past: &[u32], x: u32, y: u32) -> u3
 
 // What a message gives that must equal the standing claim.
 fn compared(circuit: &[u32], layer: usize, round: usize, past: &[u32], message: &[u32]) -> u32
-    ensures { λ r. ⌜ (AtRound (now (circuit .entry)) (place layer round) (length (now (past .entry))) → r ≡ compared (now (circuit .entry)) (isLine (now (circuit .entry)) (place layer round)) (place layer round) (now (past .entry)) (now (message .entry))) ⌝ }
+    ensures { λ r. ⌜ Compares (now (circuit .entry)) (place layer round) (now (past .entry)) (now (message .entry)) r ⌝ }
 {
     let f = Field::of(layout::prime(circuit));
     let x = polynomial::value_at(f, message, 0);
@@ -58,7 +52,7 @@ pub fn judge(
     claim: u32,
     message: &[u32],
 ) -> Checked
-    ensures { λ r. ⌜ (AtRound (now (circuit .entry)) (place layer round) (length (now (past .entry))) → causeOf r ≡ judge (now (circuit .entry)) (place layer round) (now (past .entry)) claim (now (message .entry))) ⌝ }
+    ensures { λ r. ⌜ Judges (now (circuit .entry)) (place layer round) (now (past .entry)) claim (now (message .entry)) r ⌝ }
 {
     if message.len() != standing::message_length(circuit, layer, round) {
         return Checked::Refused(Cause::MessageLength);
@@ -77,7 +71,7 @@ pub fn judge(
 
 // The last comparison: the input's extension at the point that the coins give.
 pub fn input_agrees(circuit: &[u32], input: &[u32], coins: &[u32], claim: u32) -> bool
-    ensures { λ r. ⌜ (Counted (now (circuit .entry)) (now (input .entry)) (now (coins .entry)) → r ≡ inputAgrees (now (circuit .entry)) (now (input .entry)) (now (coins .entry)) claim) ⌝ }
+    ensures { λ r. ⌜ ComparesLast (now (circuit .entry)) (now (input .entry)) (now (coins .entry)) claim r ⌝ }
 {
     let depth = layout::depth(circuit);
     let point = standing::standing_point(circuit, depth + 1, coins);

@@ -1,11 +1,11 @@
 -- Laws of words written over a buffer: what stands where, and one message after another.
 -- Assumes nothing.
-use mathlib.Core.Path.{_≡_, sym, ap, ap₂, _∙_, subst}
+use mathlib.Core.Path.{_≡_, sym, ap, _∙_, subst}
 use mathlib.Core.List.{List, [], _∷_, _++_, append-assoc, append-nil}
 use Prim.Native.Nat.{ℕ, suc, _+_, _-_, _≤_, _<_}
 use native.Mathlib.Omega.{arith}
 use native.Mathlib.Numerals.{add-one}
-use lib.ListN.{length, getD, set, take, drop, length-append, length-take, length-drop, drop-of-length-le}
+use lib.ListN.{length, getD, set, take, drop, length-append, length-drop, drop-of-length-le}
 use lib.Seq.{take-suc, length-take-le, take-at, drop-at, drop-drop, take-all, drop-cons, set-at, take-append-seam, drop-append-seam, getD-append-add, getD-drop}
 use Rattle.lists.specs.Buffer.{over}
 
@@ -84,11 +84,3 @@ module _ {A : Type 0} where
   -- words that the buffer holds
   pub over-whole : (words l after : List A) → length words ≤ length l → after ≡ over (take (length l) words) l → after ≡ over words l
   over-whole words l after h e = e ∙ ap (λ (ms : List A). over ms l) (take-all (length l) words h)
-
-  -- words put over the front of an array of n, as many as it holds
-  pub put-size : (words l after : List A) (n : ℕ) → length l ≡ n → after ≡ over (take (length l) words) l → length after ≡ n
-  put-size words l after n size e = ap length e ∙ length-over (take (length l) words) l (omega (arith, length-take (length l) words)) ∙ size
-
-  pub put-front : (words l after : List A) (n : ℕ) → length l ≡ n → after ≡ over (take (length l) words) l → take (length (take n words)) after ≡ take n words
-  put-front words l after n size e =
-      ap₂ (λ (k : ℕ) (m : List A). take (length (take k words)) m) (sym size) e ∙ take-over (take (length l) words) l ∙ ap (λ (k : ℕ). take k words) size

@@ -3,3 +3,4 @@ pub mod Map
 pub mod Count
 pub mod Buffer
 pub mod Parts
+pub mod Front

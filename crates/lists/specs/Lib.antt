@@ -1,3 +1,4 @@
 pub mod Each
 pub mod Count
 pub mod Buffer
+pub mod Front

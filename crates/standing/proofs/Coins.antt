@@ -16,7 +16,7 @@ use Rattle.circuit.specs.Sized.{LegalCircuit}
 use Rattle.circuit.proofs.Sized.{deep}
 use Rattle.protocol.specs.Rounds.{layerStart}
 use Rattle.protocol.specs.Check.{needCoins}
-use Rattle.standing.specs.Standing.{LayerSoFar, layerSum}
+use Rattle.standing.specs.Standing.{LayerSoFar, layerSum, SumBefore}
 
 -- one layer's part is far from the end of a word of 64 bits
 pub times-small : (a k : ℕ) → a ≤ 7 → k < 4294967296 → a * k ≤ 30064771072
@@ -42,7 +42,7 @@ module _ (c : List ℕ) (first a : ℕ) where
   sum-all h = ap (λ (ks : List ℕ). first + layerSum a ks) (take-all (depth c + 1 - 1) (exponents c) (omega (arith, deep c h)))
 
   -- the sum before the layer behind the last is the whole
-  pub sum-whole : LegalCircuit c → (d r : ℕ) → d ≡ depth c → (LayerSoFar c (d + 1) → r ≡ so (d + 1 - 1)) → r ≡ first + layerSum a (exponents c)
+  pub sum-whole : LegalCircuit c → (d r : ℕ) → d ≡ depth c → SumBefore c first a (d + 1) r → r ≡ first + layerSum a (exponents c)
   sum-whole h d r e told =
       told (record { legal = h; first = omega arith; last = omega arith })
       ∙ ap (λ (n : ℕ). so (n + 1 - 1)) e ∙ sum-all h

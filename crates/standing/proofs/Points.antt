@@ -5,13 +5,13 @@ use mathlib.Core.Path.{_≡_, sym, ap, ap₂, _∙_, subst}
 use mathlib.Core.List.{List}
 use native.Mathlib.Decide.{decLt}
 use native.Mathlib.Omega.{arith}
-use lib.ListN.{length, length-drop, length-take, take, drop, getD, drop-of-length-le}
+use lib.ListN.{length, length-drop, take, drop, getD, drop-of-length-le}
 use lib.Seq.{take-all, drop-drop, getD-drop, length-take-le}
 use Rattle.lists.proofs.Count.{sum-nil}
+use Rattle.lists.proofs.Front.{front-whole, front-take}
 use Rattle.algebra.specs.Numbers.{words}
-use Rattle.circuit.specs.Limits.{maxExponent}
+use Rattle.extension.specs.Limits.{rowLength}
 use Rattle.circuit.specs.Circuit.{primeOf, depth, outputExponent, exponentAt}
-use Rattle.circuit.specs.Sized.{LayerOf}
 use Rattle.circuit.proofs.Sized.{one-output, deep, exponent-small}
 use Rattle.sumcheck.specs.Summand.{linePoint}
 use Rattle.sumcheck.proofs.Message.{length-line}
@@ -23,72 +23,97 @@ use Rattle.protocol.specs.Judge.{lineEnd, pointAt}
 use Rattle.protocol.proofs.Points.{start-next}
 use Rattle.standing.specs.Standing.{AtLayer, Row}
 
--- the layer above, a layer of the circuit
-pub layer-above : (c : List ℕ) (layer : ℕ) (past : List ℕ) → AtLayer c layer (length past) → LayerOf c (layer - 1)
-layer-above c layer past h =
-    let low : layer ≤ 1 + depth c = h .last in
-    record { headed = h .legal .sized .headed; inside = omega arith }
+-- a row that the coordinates fit
+pub row-whole : {l m r : List ℕ} → l ≡ m → length m ≤ rowLength → Row (take rowLength l) r → Row m r
+row-whole {l} {m} {r} e h row = front-whole rowLength m r h (subst (λ (a : List ℕ). Row (take rowLength a) r) e row)
+
+-- where the coins of the layer above stand among those so far: k for its first point, k for its second, and last the line's
+abbrev pub lastCoin : List ℕ → ℕ
+lastCoin past = length past - 1
+
+abbrev pub secondStart : List ℕ → ℕ → ℕ
+secondStart past k = lastCoin past - k
+
+abbrev pub firstStart : List ℕ → ℕ → ℕ
+firstStart past k = secondStart past k - k
+
+-- the rows of the two points, and the point that their line has at its coin
+pub record LineRows (p : ℕ) (past : List ℕ) (k : ℕ) (u v r : List ℕ) : Type 0 where
+  pub first : Row (take rowLength (take (secondStart past k - firstStart past k) (drop (firstStart past k) past))) u
+  pub second : Row (take rowLength (take (lastCoin past - secondStart past k) (drop (secondStart past k) past))) v
+  pub point : r ≡ linePoint (words p) u v (getD past (lastCoin past) 0)
 
 module _ (c : List ℕ) (l : ℕ) (past : List ℕ) (h : AtLayer c (suc (suc l)) (length past)) where
-  -- the layer above: its coins are the last 2k + 1
-  above-coins : length past ≡ layerStart c (suc l) + 2 * exponentAt c (suc l) + 1
-  above-coins =
-      let low : suc (suc l) ≤ 1 + depth c = h .last in
-      h .counted ∙ start-next c l (omega (arith, deep c (h .legal)))
+  inside : suc l ≤ depth c
+  inside = let low : suc (suc l) ≤ 1 + depth c = h .last in omega arith
 
-  -- the layer's 2k + 1 coins are all that is left, and the point has k coordinates
-  own-coins : length (drop (layerStart c (suc l)) past) ≡ 2 * exponentAt c (suc l) + 1
+  -- the layer above: its exponent, where its coins start, and those that are left from there on
+  abbrev K : ℕ
+  K = exponentAt c (suc l)
+
+  abbrev s : ℕ
+  s = layerStart c (suc l)
+
+  abbrev cs : List ℕ
+  cs = drop s past
+
+  fits : K ≤ rowLength
+  fits = let low = exponent-small c (suc l) (record { headed = h .legal .sized .headed; inside = inside }) in omega arith
+
+  -- they are its 2k + 1 coins
+  above-coins : length past ≡ s + 2 * K + 1
+  above-coins = let low = inside in h .counted ∙ start-next c l (omega (arith, deep c (h .legal)))
+
+  own-coins : length cs ≡ 2 * K + 1
   own-coins = let size = above-coins in rw length-drop (omega arith)
 
-  point-own : pointAt c (suc (suc l)) past ≡ lineEnd c (exponentAt c (suc l)) (drop (layerStart c (suc l)) past)
-  point-own = ap (lineEnd c (exponentAt c (suc l))) (take-all (2 * exponentAt c (suc l) + 1) (drop (layerStart c (suc l)) past) (omega (arith, own-coins)))
+  first-long : length (take K cs) ≡ K
+  first-long = let own = own-coins in length-take-le K cs (omega arith)
 
-  above-length : length (pointAt c (suc (suc l)) past) ≡ exponentAt c (suc l)
-  above-length =
-      let K : ℕ = exponentAt c (suc l) in
-      let cs : List ℕ = drop (layerStart c (suc l)) past in
-      let own : length cs ≡ 2 * K + 1 = own-coins in
-      let long-u : length (take K cs) ≡ K = length-take-le K cs (omega arith) in
-      let long-v : length (take K (drop K cs)) ≡ K = length-take-le K (drop K cs) (rw length-drop (omega arith)) in
-      ap length point-own ∙ line-point-length (primeOf c) _ _ _ (long-u ∙ sym long-v) ∙ long-u
+  second-long : length (take K (drop K cs)) ≡ K
+  second-long = let own = own-coins in length-take-le K (drop K cs) (rw length-drop (omega arith))
 
-  line-row : (k u v t : ℕ) (first second r : List ℕ) → k ≡ exponentAt c (suc l) → t ≡ length past - 1 → v ≡ t - k → u ≡ v - k
-      → Row (take (v - u) (drop u past)) first → Row (take (t - v) (drop v past)) second
-      → r ≡ linePoint (words (primeOf c)) first second (getD past t 0) → Row (pointAt c (suc (suc l)) past) r
-  line-row k u v t first second r ek et ev eu row₁ row₂ e =
-      let N = words (primeOf c) in
-      let K : ℕ = exponentAt c (suc l) in
-      let s : ℕ = layerStart c (suc l) in
-      let cs : List ℕ = drop s past in
-      let size : length past ≡ s + 2 * K + 1 = above-coins in
-      let place-u : u ≡ s = omega arith in
-      let place-v : v ≡ s + K = omega arith in
-      let place-t : t ≡ s + 2 * K = omega arith in
-      let wide-u : v - u ≡ K = omega arith in
-      let wide-v : t - v ≡ K = omega arith in
-      let own : length cs ≡ 2 * K + 1 = own-coins in
-      let eu : take (v - u) (drop u past) ≡ take K cs = ap₂ (λ (a b : ℕ). take a (drop b past)) wide-u place-u in
-      let ev : take (t - v) (drop v past) ≡ take K (drop K cs) =
-      ap₂ (λ (a b : ℕ). take a (drop b past)) wide-v place-v ∙ ap (take K) (sym (drop-drop K s past)) in
-      let et : getD past t 0 ≡ getD cs (2 * K) 0 = ap (λ (i : ℕ). getD past i 0) place-t ∙ sym (getD-drop s past (2 * K) 0) in
-      let point : pointAt c (suc (suc l)) past ≡ linePoint N (take K cs) (take K (drop K cs)) (getD cs (2 * K) 0) =
-      point-own in
-      let long-u : length (take K cs) ≡ K = length-take-le K cs (omega arith) in
-      let long-v : length (take K (drop K cs)) ≡ K = length-take-le K (drop K cs) (rw length-drop (omega arith)) in
-      let long : length (pointAt c (suc (suc l)) past) ≡ K = above-length in
-      let front-u : take K first ≡ take K cs = ap (λ (n : ℕ). take n first) (sym (ap length eu ∙ long-u)) ∙ row₁ .holds ∙ eu in
-      let front-v : take K second ≡ take K (drop K cs) = ap (λ (n : ℕ). take n second) (sym (ap length ev ∙ long-v)) ∙ row₂ .holds ∙ ev in
-      record {
-        size = ap length e ∙ length-line N maxExponent first second (getD past t 0) (row₁ .size) (row₂ .size);
-        holds =
-            ap₂ take long e ∙ take-line N K first second (getD past t 0)
-            ∙ ap₂ (λ (a b : List ℕ). linePoint N a b (getD past t 0)) front-u front-v
-            ∙ ap (linePoint N (take K cs) (take K (drop K cs))) et ∙ sym point;
-      }
+  -- the point has k coordinates
+  point-own : pointAt c (suc (suc l)) past ≡ lineEnd c K cs
+  point-own = ap (lineEnd c K) (take-all (2 * K + 1) cs (omega (arith, own-coins)))
 
--- a row that the coordinates fit
-pub row-whole : (l r : List ℕ) → length l ≤ maxExponent → Row (take maxExponent l) r → Row l r
-row-whole l r h row = subst (λ (m : List ℕ). Row m r) (take-all maxExponent l h) row
+  above-length : length (pointAt c (suc (suc l)) past) ≡ K
+  above-length = ap length point-own ∙ line-point-length (primeOf c) _ _ _ (first-long ∙ sym second-long) ∙ first-long
+
+  -- its coins are where the code looks for them
+  module _ (k : ℕ) (ek : k ≡ K) where
+    first-there : take (secondStart past k - firstStart past k) (drop (firstStart past k) past) ≡ take K cs
+    first-there =
+        let size = above-coins in
+        let place : firstStart past k ≡ s = omega arith in
+        let wide : secondStart past k - firstStart past k ≡ K = omega arith in
+        ap₂ (λ (n i : ℕ). take n (drop i past)) wide place
+
+    second-there : take (lastCoin past - secondStart past k) (drop (secondStart past k) past) ≡ take K (drop K cs)
+    second-there =
+        let size = above-coins in
+        let place : secondStart past k ≡ s + K = omega arith in
+        let wide : lastCoin past - secondStart past k ≡ K = omega arith in
+        ap₂ (λ (n i : ℕ). take n (drop i past)) wide place ∙ ap (take K) (sym (drop-drop K s past))
+
+    last-there : getD past (lastCoin past) 0 ≡ getD cs (2 * K) 0
+    last-there =
+        let size = above-coins in
+        let place : lastCoin past ≡ s + 2 * K = omega arith in
+        ap (λ (i : ℕ). getD past i 0) place ∙ sym (getD-drop s past (2 * K) 0)
+
+    line-row : (u v r : List ℕ) → LineRows (primeOf c) past k u v r → Row (pointAt c (suc (suc l)) past) r
+    line-row u v r rows =
+        let N = words (primeOf c) in
+        let t : ℕ = getD past (lastCoin past) 0 in
+        let front-u : take K u ≡ take K cs = front-take (row-whole first-there (rw first-long fits) (rows .first)) K (sym first-long) in
+        let front-v : take K v ≡ take K (drop K cs) = front-take (row-whole second-there (rw second-long fits) (rows .second)) K (sym second-long) in
+        record {
+          size = ap length (rows .point) ∙ length-line N rowLength u v t (rows .first .size) (rows .second .size);
+          holds =
+              ap₂ take above-length (rows .point) ∙ take-line N K u v t ∙ ap₂ (λ (a b : List ℕ). linePoint N a b t) front-u front-v
+              ∙ ap (linePoint N (take K cs) (take K (drop K cs))) last-there ∙ sym point-own;
+        }
 
 -- the same, of a layer that is not the first
 module _ (c : List ℕ) (past : List ℕ) where
@@ -99,30 +124,16 @@ module _ (c : List ℕ) (past : List ℕ) where
       let e : suc (suc l) - 1 ≡ suc l = omega arith in
       above-coins c l past h ∙ ap (λ (i : ℕ). layerStart c i + 2 * exponentAt c i + 1) (sym e)
 
-  pub record Sizes (k : ℕ) : Type 0 where
-    pub enough : 2 * k + 1 ≤ length past
-    pub small : k ≤ maxExponent
+  pub standing-enough : (layer k : ℕ) → AtLayer c layer (length past) → 2 ≤ layer → k ≡ exponentAt c (layer - 1) → 2 * k + 1 ≤ length past
+  standing-enough layer k h ne ek = omega (arith, ek, standing-coins layer h ne)
 
-  pub standing-sizes : (layer k : ℕ) → AtLayer c layer (length past) → 2 ≤ layer → k ≡ exponentAt c (layer - 1) → Sizes k
-  standing-sizes layer k h ne ek =
-      let low = exponent-small c (layer - 1) (layer-above c layer past h) in
-      record { enough = omega (arith, ek, standing-coins layer h ne); small = omega (arith, ek, low) }
-
-  short : (n : ℕ) (l : List ℕ) → n ≤ maxExponent → length (take n l) ≤ maxExponent
-  short n l h = omega (arith, length-take n l)
-
-  pub standing-row : (layer k u v t : ℕ) (first second r : List ℕ) → AtLayer c layer (length past) → 2 ≤ layer
-      → k ≡ exponentAt c (layer - 1) → t ≡ length past - 1 → v ≡ t - k → u ≡ v - k
-      → Row (take maxExponent (take (v - u) (drop u past))) first → Row (take maxExponent (take (t - v) (drop v past))) second
-      → r ≡ linePoint (words (primeOf c)) first second (getD past t 0) → Row (pointAt c layer past) r
-  standing-row zero k u v t first second r h ne ek et ev eu row₁ row₂ = absurd (let low : 1 ≤ 0 = h .first in omega arith)
-  standing-row (suc zero) k u v t first second r h ne ek et ev eu row₁ row₂ = absurd (omega arith)
-  standing-row (suc (suc l)) k u v t first second r h ne ek et ev eu row₁ row₂ =
+  pub standing-row : (layer k : ℕ) (u v r : List ℕ) → AtLayer c layer (length past) → 2 ≤ layer → k ≡ exponentAt c (layer - 1)
+      → LineRows (primeOf c) past k u v r → Row (pointAt c layer past) r
+  standing-row zero k u v r h ne ek rows = absurd (let low : 1 ≤ 0 = h .first in omega arith)
+  standing-row (suc zero) k u v r h ne ek rows = absurd (omega arith)
+  standing-row (suc (suc l)) k u v r h ne ek rows =
       let e : suc (suc l) - 1 ≡ suc l = omega arith in
-      let small = standing-sizes (suc (suc l)) k h ne ek .small in
-      line-row c l past h k u v t first second r (ek ∙ ap (exponentAt c) e) et ev eu
-      (row-whole (take (v - u) (drop u past)) first (short (v - u) (drop u past) (omega arith)) row₁)
-      (row-whole (take (t - v) (drop v past)) second (short (t - v) (drop v past) (omega arith)) row₂)
+      line-row c l past h k (ek ∙ ap (exponentAt c) e) u v r rows
 
   first-length : AtLayer c 1 (length past) → length (pointAt c 1 past) ≡ exponentAt c 0
   first-length h = length-take-le (outputExponent c) past (omega (arith, h .counted, sum-nil))
@@ -133,15 +144,15 @@ module _ (c : List ℕ) (past : List ℕ) where
   point-length (suc (suc l)) h = let e : suc (suc l) - 1 ≡ suc l = omega arith in above-length c l past h ∙ ap (exponentAt c) (sym e)
 
   -- at layer 1 the coins so far are the first point
-  pub first-row : (layer : ℕ) (r : List ℕ) → AtLayer c layer (length past) → layer < 2 → Row (take maxExponent past) r → Row (pointAt c layer past) r
+  pub first-row : (layer : ℕ) (r : List ℕ) → AtLayer c layer (length past) → layer < 2 → Row (take rowLength past) r → Row (pointAt c layer past) r
   first-row layer r h low row =
       let some : 1 ≤ layer = h .first in
       let e : 1 ≡ layer = omega arith in
       let counted : length past ≡ layerStart c layer = h .counted in
       let few : length past ≡ outputExponent c = counted ∙ ap (layerStart c) (sym e) ∙ omega (arith, sum-nil) in
       let whole : past ≡ firstPoint c past = sym (take-all (outputExponent c) past (omega arith)) in
-      subst (λ (i : ℕ). Row (pointAt c i past) r) e
-      (subst (λ (l : List ℕ). Row l r) whole (row-whole past r (omega (arith, few, one-output c)) row))
+      let small : length (firstPoint c past) ≤ rowLength = omega (arith, ap length whole, few, one-output c) in
+      subst (λ (i : ℕ). Row (pointAt c i past) r) e (row-whole whole small row)
 
 -- the lesser of a list's length and k takes as many words as k
 pub least-front : (k : ℕ) (l : List ℕ) (r : ℕ) → r ≡ min (length l) k → take r l ≡ take k l

@@ -6,6 +6,8 @@ use mathlib.Core.List.{List}
 use native.Mathlib.Omega.{arith}
 use lib.ListN.{length, length-drop, length-take, take, drop, take-append-drop}
 use lib.Seq.{drop-drop, length-take-le}
+use Rattle.lists.proofs.Front.{front-take}
+use Rattle.extension.specs.Limits.{rowLength}
 use Rattle.circuit.specs.Limits.{maxExponent}
 use Rattle.circuit.specs.Circuit.{depth, exponents, exponentAt, gatesOf, gatesAt}
 use Rattle.circuit.specs.Sized.{LayerOf}
@@ -15,9 +17,22 @@ use Rattle.summand.specs.Gates.{gatesIn}
 use Rattle.protocol.specs.Rounds.{place, layerStart, AtRound}
 use Rattle.protocol.specs.Judge.{fixed, pointAt, gatesAbove}
 use Rattle.protocol.proofs.Points.{point-more}
-use Rattle.standing.specs.Standing.{AtLayer, Row, Within, Stands}
+use Rattle.standing.specs.Standing.{AtLayer, Row, Within, Stands, PointStands}
 use Rattle.standing.specs.declared.Stand.{Stand}
 use Rattle.standing.proofs.Points.{least-front, least-rest, row-whole, point-length}
+
+-- the coins before the layer's own
+abbrev pub ownStart : ℕ → List ℕ → ℕ
+ownStart round past = length past - round
+
+-- a stand as the code makes it, its numbers cut to a row's length: of the layer's own coins the first n are u's, the others v's
+pub record Cut (c : List ℕ) (layer round : ℕ) (past : List ℕ) (n : ℕ) (s : Stand) : Type 0 where
+  pub own : s .own ≡ min (exponentAt c layer) rowLength
+  pub above : s .above ≡ min (exponentAt c (layer - 1)) rowLength
+  pub fewer : n ≡ min round (s .own)
+  pub first : Row (take rowLength (take (ownStart round past + n - ownStart round past) (drop (ownStart round past) past))) (s .u)
+  pub second : Row (take rowLength (drop (ownStart round past + n) past)) (s .v)
+  pub point : PointStands c layer (take (ownStart round past) past) (s .point)
 
 -- nothing stands where there is no such round
 pub nothing-within : (s : Stand) → (s .above ≡ 0) × (s .own ≡ 0) → Within s
@@ -72,25 +87,24 @@ module _ (c : List ℕ) (layer round : ℕ) (past : List ℕ) (h : AtRound c (pl
   -- the rows' coordinates, and that they are there
   module _ (s : Stand) (t : Stands c layer past s) where
     pub above-point : take (s .above) (s .point) ≡ pointAt c layer past
-    above-point = ap (λ (n : ℕ). take n (s .point)) (t .above ∙ sym point-size) ∙ t .point .holds
+    above-point = front-take (t .point) (s .above) (t .above ∙ sym point-size)
 
-  module _ (s : Stand) (start first : ℕ) (es : start ≡ length past - round) (ef : first ≡ min round (s .own)) where
-    pub stands : s .own ≡ min (exponentAt c layer) maxExponent → s .above ≡ min (exponentAt c (layer - 1)) maxExponent
-        → Row (take maxExponent (take (start + first - start) (drop start past))) (s .u) → Row (take maxExponent (drop (start + first) past)) (s .v)
-        → (AtLayer c layer (length (take start past)) → Row (pointAt c layer (take start past)) (s .point)) → Stands c layer past s
-    stands cut-own cut-above row₁ row₂ point =
+  module _ (s : Stand) (first : ℕ) (read : Cut c layer round past first s) where
+    pub stands : Stands c layer past s
+    stands =
         let low : layer ≤ depth c = h .last in
         let some : 1 ≤ layer = h .first in
+        let start : ℕ = ownStart round past in
         let at : start ≡ layerStart c layer = omega (arith, h .counted) in
         let xs : List ℕ = fixed c layer past in
         let k : ℕ = exponentAt c layer in
-        let small : k ≤ maxExponent = own-small in
-        let ek : s .own ≡ k = omega (arith, cut-own) in
+        let small : k ≤ rowLength = let few = own-small in omega arith in
+        let ek : s .own ≡ k = omega (arith, read .own) in
         let wide : exponentAt c (layer - 1) ≤ maxExponent = exponent-small c (layer - 1) above-layer in
-        let ea : s .above ≡ exponentAt c (layer - 1) = omega (arith, cut-above) in
+        let ea : s .above ≡ exponentAt c (layer - 1) = omega (arith, read .above) in
         let reached : round ≤ 2 * k = h .reached in
         let size : length xs ≡ round = own-coins in
-        let fewer = ef ∙ ap (λ (n : ℕ). min n (s .own)) (sym size) in
+        let fewer = read .fewer ∙ ap (λ (n : ℕ). min n (s .own)) (sym size) in
         let cut : start + first - start ≡ first = omega arith in
         let eu : take (start + first - start) (drop start past) ≡ take k xs =
         ap₂ (λ (n i : ℕ). take n (drop i past)) cut at ∙ least-front (s .own) xs first fewer ∙ ap (λ (n : ℕ). take n xs) ek in
@@ -99,7 +113,7 @@ module _ (c : List ℕ) (layer round : ℕ) (past : List ℕ) (h : AtRound c (pl
         record {
           above = ea;
           own = ek;
-          point = subst (λ (z : List ℕ). Row z (s .point)) (ap (λ (i : ℕ). pointAt c layer (take i past)) at ∙ same-point) (point (at-layer start at));
-          first = row-whole (take k xs) (s .u) (omega (arith, length-take k xs, small)) (subst (λ (m : List ℕ). Row (take maxExponent m) (s .u)) eu row₁);
-          second = row-whole (drop k xs) (s .v) (omega (arith, length-drop k xs, small, reached, size)) (subst (λ (m : List ℕ). Row (take maxExponent m) (s .v)) ev row₂);
+          point = subst (λ (z : List ℕ). Row z (s .point)) (ap (λ (i : ℕ). pointAt c layer (take i past)) at ∙ same-point) (read .point (at-layer start at));
+          first = row-whole eu (omega (arith, length-take k xs)) (read .first);
+          second = row-whole ev (omega (arith, length-drop k xs)) (read .second);
         }

@@ -6,16 +6,12 @@ use layout::MAX_DEPTH;
 use refusal::Cause;
 use refusal::Checked;
 ghost use mathlib.Core.Path.{_≡_};
-ghost use Prim.Native.Nat.{_+_, _-_, _≤_};
-ghost use lib.ListN.{length, take};
-ghost use Rattle.refusal.specs.Number.{causeOf};
-ghost use Rattle.circuit.specs.Limits.{maxExponent};
-ghost use Rattle.circuit.specs.Circuit.{exponents, coinCount, messageWords};
-ghost use Rattle.circuit.specs.Sized.{LegalCircuit};
-ghost use Rattle.protocol.specs.Rounds.{place, layerStart, isLine, AtRound};
-ghost use Rattle.protocol.specs.Judge.{pointAt, messageLength};
-ghost use Rattle.protocol.specs.Check.{needCoins};
-ghost use Rattle.standing.specs.Standing.{AtLayer, layerSum, LayerSoFar, Row, Within, Stands};
+ghost use Prim.Native.Nat.{_≤_};
+ghost use lib.ListN.{take};
+ghost use Rattle.extension.specs.Limits.{rowLength};
+ghost use Rattle.protocol.specs.Rounds.{place, isLine};
+ghost use Rattle.protocol.specs.Judge.{messageLength};
+ghost use Rattle.standing.specs.Standing.{Row, PointStands, SumBefore, CoinsBefore, CoinsOf, WordsOf, ChecksCoins, StandsAt};
 
 // Whether a round is its layer's line.
 pub fn is_line(circuit: &[u32], layer: usize, round: usize) -> bool
@@ -37,7 +33,7 @@ pub fn message_length(circuit: &[u32], layer: usize, round: usize) -> usize
 // A first number, and the sum of a × k + 1 over the exponents k of the layers before this one, for a small a.
 fn sum_layers(circuit: &[u32], first: u32, a: usize, layer: usize) -> usize
     requires { ⌜ a ≤ 7 ⌝ }
-    ensures { λ r. ⌜ (LayerSoFar (now (circuit .entry)) layer → r ≡ first + layerSum a (take (layer - 1) (exponents (now (circuit .entry))))) ⌝ }
+    ensures { λ r. ⌜ SumBefore (now (circuit .entry)) first a layer r ⌝ }
 {
     if MAX_DEPTH + 1 < layer {
         return 0;
@@ -51,14 +47,14 @@ fn sum_layers(circuit: &[u32], first: u32, a: usize, layer: usize) -> usize
 
 // The coins before a layer.
 pub fn coins_before(circuit: &[u32], layer: usize) -> usize
-    ensures { λ r. ⌜ (LayerSoFar (now (circuit .entry)) layer → r ≡ layerStart (now (circuit .entry)) layer) ⌝ }
+    ensures { λ r. ⌜ CoinsBefore (now (circuit .entry)) layer r ⌝ }
 {
     sum_layers(circuit, layout::exponent(circuit, 0), 2, layer)
 }
 
 // The coins of a circuit.
 pub fn coin_count(circuit: &[u32]) -> usize
-    ensures { λ r. ⌜ (LegalCircuit (now (circuit .entry)) → r ≡ coinCount (now (circuit .entry))) ⌝ }
+    ensures { λ r. ⌜ CoinsOf (now (circuit .entry)) r ⌝ }
 {
     sum_layers(
         circuit,
@@ -70,14 +66,14 @@ pub fn coin_count(circuit: &[u32]) -> usize
 
 // The words of all its messages.
 pub fn message_words(circuit: &[u32]) -> usize
-    ensures { λ r. ⌜ (LegalCircuit (now (circuit .entry)) → r ≡ messageWords (now (circuit .entry))) ⌝ }
+    ensures { λ r. ⌜ WordsOf (now (circuit .entry)) r ⌝ }
 {
     sum_layers(circuit, 0, 7, layout::depth(circuit) + 1)
 }
 
 // The refusals 11 and 12.
 pub fn check_coins(circuit: &[u32], coins: &[u32]) -> Checked
-    ensures { λ r. ⌜ (LegalCircuit (now (circuit .entry)) → causeOf r ≡ needCoins (now (circuit .entry)) (now (coins .entry)) 0) ⌝ }
+    ensures { λ r. ⌜ ChecksCoins (now (circuit .entry)) (now (coins .entry)) r ⌝ }
 {
     if coins.len() != coin_count(circuit) {
         return Checked::Refused(Cause::CoinCount);
@@ -88,9 +84,9 @@ pub fn check_coins(circuit: &[u32], coins: &[u32]) -> Checked
     Checked::Legal
 }
 
-// A point's coordinates in a row of eight words; of more than eight, the first eight.
+// A point's coordinates in a row; of more than its length, the first.
 fn row(coordinates: &[u32]) -> [u32; MAX_COORDINATES]
-    ensures { λ r. ⌜ Row (take maxExponent (now (coordinates .entry))) r ⌝ }
+    ensures { λ r. ⌜ Row (take rowLength (now (coordinates .entry))) r ⌝ }
 {
     let mut row = [0u32; MAX_COORDINATES];
     lists::put(&mut row, coordinates);
@@ -99,7 +95,7 @@ fn row(coordinates: &[u32]) -> [u32; MAX_COORDINATES]
 
 // The standing point at a layer, from the coins before it: the end of the line of the layer above.
 pub fn standing_point(circuit: &[u32], layer: usize, past: &[u32]) -> [u32; MAX_COORDINATES]
-    ensures { λ r. ⌜ (AtLayer (now (circuit .entry)) layer (length (now (past .entry))) → Row (pointAt (now (circuit .entry)) layer (now (past .entry))) r) ⌝ }
+    ensures { λ r. ⌜ PointStands (now (circuit .entry)) layer (now (past .entry)) r ⌝ }
 {
     if layer < 2 {
         return row(past);
@@ -140,7 +136,7 @@ fn nothing() -> Stand
 
 // What stands at a round, from the coins before it. Whatever the list, its numbers are cut to a row's length.
 pub fn at_round(circuit: &[u32], layer: usize, round: usize, past: &[u32]) -> Stand
-    ensures { λ r. ⌜ Within r × (AtRound (now (circuit .entry)) (place layer round) (length (now (past .entry))) → Stands (now (circuit .entry)) layer (now (past .entry)) r) ⌝ }
+    ensures { λ r. ⌜ StandsAt (now (circuit .entry)) layer round (now (past .entry)) r ⌝ }
 {
     if layer < 1 {
         return nothing();

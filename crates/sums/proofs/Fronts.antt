@@ -14,6 +14,7 @@ use lib.ListN.{length, take, getD, length-take}
 use lib.Pow.{shr-shr, shr-le}
 use lib.Seq.{length-take-le}
 use borrow.Author.Tests.{lt-ltb, le-ltb, le-leb, lt-leb}
+use Rattle.lists.proofs.Front.{front-take}
 use Rattle.lists.proofs.Parts.{take-least, take-most}
 use Rattle.algebra.specs.Numbers.{Numbers, words}
 use Rattle.multilinear.specs.Extension.{fold}
@@ -74,7 +75,7 @@ module _ (p : ℕ) where
   pub weights-lent : (k n : ℕ) (xs table : List ℕ) → length xs ≡ k → k ≤ maxExponent → n ≡ widthOf k
       → Table (weights N xs) table → take n table ≡ weights N xs
   weights-lent k n xs table size small e t =
-      ap (λ (m : ℕ). take m table) (e ∙ width-of k small ∙ ap (λ (m : ℕ). 2 ^ m) (sym size) ∙ sym (length-weights N xs)) ∙ t .holds
+      front-take t n (e ∙ width-of k small ∙ ap (λ (m : ℕ). 2 ^ m) (sym size) ∙ sym (length-weights N xs))
 
   length-of-folded : (xs vs : List ℕ) → length (folded N xs vs) ≡ length vs / 2 ^ length xs
   unfolding folded
@@ -86,9 +87,8 @@ module _ (p : ℕ) where
   pub folded-lent : (k n : ℕ) (values xs table : List ℕ) → length xs ≡ k → n ≡ min tableWidth (length values)
       → Table (folded N xs (take tableWidth values)) table → take (n / 2 ^ k) table ≡ folded N xs (take tableWidth values)
   folded-lent k n values xs table size e t =
-      ap (λ (m : ℕ). take m table)
+      front-take t (n / 2 ^ k)
       (ap₂ (λ (m j : ℕ). m / 2 ^ j) (e ∙ sym (length-take tableWidth values)) (sym size) ∙ sym (length-of-folded xs (take tableWidth values)))
-      ∙ t .holds
 
   pub side-is : (k n : ℕ) (next : Bool) (vs xs shares table : List ℕ) (c : Cut) → length xs ≡ n → CutAt k n next c
       → shares ≡ weights N xs → table ≡ folded N xs vs → side shares table c ≡ sideOf N k vs xs next

@@ -1,8 +1,8 @@
--- Lists at the front of a table, and a front that was lent and written over; a row's weights fit in a table.
+-- The front of a list that was lent and written over; a row's weights fit in a table.
 -- Assumes nothing.
-use mathlib.Core.Path.{_≡_, sym, ap, _∙_}
+use mathlib.Core.Path.{_≡_, ap, _∙_}
 use mathlib.Core.List.{List, _++_, append-assoc}
-use Prim.Native.Nat.{ℕ, _+_, _^_, _≤_}
+use Prim.Native.Nat.{ℕ, _^_, _≤_}
 use native.Mathlib.Nat.{pow-le-pow-right}
 use native.Mathlib.Omega.{arith}
 use lib.Dec.{lit<}
@@ -12,16 +12,10 @@ use Rattle.lists.specs.Buffer.{over}
 use Rattle.lists.proofs.Buffer.{length-over}
 use Rattle.extension.specs.Limits.{rowLength}
 use Rattle.tables.specs.Limits.{tableWidth}
-use Rattle.tables.specs.Table.{Table}
 
--- 2^8 is 256
+-- a row has no more weights than a table has words
 pub weights-fit : (n : ℕ) → n ≤ rowLength → 2 ^ n ≤ tableWidth
 weights-fit n h = pow-le-pow-right (lit< tt) h
-
-pub table : (vs l : List ℕ) (n : ℕ) → length l ≡ tableWidth → n ≤ tableWidth → take n l ≡ vs → Table vs l
-table vs l n size h e =
-    let count : length vs ≡ n = ap length (sym e) ∙ length-take-le n l (omega arith) in
-    record { size = size; holds = ap (λ (k : ℕ). take k l) count ∙ e }
 
 -- the first n words of a list, lent, written over and put back
 module _ {A : Type 0} (l part ms : List A) (n : ℕ) (e : part ≡ over ms (take n l)) where

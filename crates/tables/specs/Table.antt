@@ -3,13 +3,13 @@
 use Prim.Native.Nat.{ℕ}
 use mathlib.Core.Path.{_≡_}
 use mathlib.Core.List.{List, _++_, map}
-use lib.ListN.{length, take}
+use lib.ListN.{length}
+use Rattle.lists.specs.Front.{Front}
 use Rattle.algebra.specs.Numbers.{Numbers}
 use Rattle.tables.specs.Limits.{tableWidth}
 
-pub record Table (entries table : List ℕ) : Type 0 where
-  pub size : length table ≡ tableWidth
-  pub holds : take (length entries) table ≡ entries
+abbrev pub Table : List ℕ → List ℕ → Type 0
+Table entries table = Front tableWidth entries table
 
 -- a lent array of that length gets the entries, and any other is left as it was
 pub record Written (entries before after : List ℕ) : Type 0 where

@@ -7,11 +7,10 @@ use lib.ListN.{length, take}
 use lib.Seq.{length-take-le}
 use Rattle.algebra.specs.Numbers.{words}
 use Rattle.multilinear.specs.Extension.{halving}
-use Rattle.circuit.specs.Limits.{maxExponent}
+use Rattle.extension.specs.Limits.{rowLength}
 use Rattle.circuit.specs.Circuit.{exponentAt}
 use Rattle.circuit.proofs.Layers.{prime-modulus}
-use Rattle.protocol.specs.Judge.{pointAt}
-use Rattle.standing.specs.Standing.{AtLayer, Row}
+use Rattle.standing.specs.Standing.{PointStands}
 use Rattle.judgement.proofs.Last.{legal, behind-last, agrees}
 use borrow.Author.Needs.{needs}
 use Rattle.judgement.proofs.input_agrees.Statement.{statement}
@@ -48,7 +47,7 @@ slice-aggregate-extend : tie.Need-slice-aggregate-extend
 slice-aggregate-extend c =
     let point = c .before .before .before .before .before .standing-point in
     let ok = point .ok in
-    let size : length (point .result) ≡ maxExponent = search needs in
+    let size : length (point .result) ≡ rowLength = search needs in
     sym (length-take-le _ _ (omega (arith, size, c .before .before .before .least .ensures)))
 
 extend-requires : tie.Need-extend-requires
@@ -63,8 +62,8 @@ returns c h =
     let k = c .before .before .before .before .least in
     let point = c .before .before .before .before .before .before .standing-point in
     let deep = c .before .before .before .before .before .before .before .depth .ensures .0 in
-    let cut = k .ensures ∙ ap (λ (i : ℕ). min i maxExponent) (c .before .before .before .before .before .exponent .ensures ∙ ap (exponentAt l) deep) in
-    let row = subst (λ (i : ℕ). AtLayer l (i + 1) (length cs) → Row (pointAt l (i + 1) cs) (point .result)) deep (point .ensures) (behind-last l v cs h) in
+    let cut = k .ensures ∙ ap (λ (i : ℕ). min i rowLength) (c .before .before .before .before .before .exponent .ensures ∙ ap (exponentAt l) deep) in
+    let row = subst (λ (i : ℕ). PointStands l (i + 1) cs (point .result)) deep (point .ensures) (behind-last l v cs h) in
     let f = prime-modulus l (legal l v cs h) _ _ (c .before .before .before .prime .ensures) (c .before .before .of .ensures) in
     agrees l v cs h (k .result) (c .extend .result) (start .args .claim) (point .result) cut row
     (c .extend .ensures ∙ ap (λ (p : ℕ). halving (words p) v (take (k .result) (point .result))) f)

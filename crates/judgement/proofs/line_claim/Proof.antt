@@ -3,14 +3,11 @@
 use Prim.Native.Nat.{ℕ, _≤_}
 use mathlib.Core.Path.{_≡_, sym, ap, _∙_}
 use native.Mathlib.Omega.{arith}
-use lib.ListN.{length, take}
+use lib.ListN.{length}
 use lib.Seq.{length-take-le}
-use Rattle.algebra.specs.Numbers.{words}
-use Rattle.circuit.specs.Limits.{maxExponent}
+use Rattle.extension.specs.Limits.{rowLength}
 use Rattle.circuit.proofs.Layers.{prime-modulus}
-use Rattle.sumcheck.specs.Summand.{combined}
-use Rattle.summand.specs.Gates.{gatesIn}
-use Rattle.judgement.proofs.Lines.{stood, line-claim}
+use Rattle.judgement.proofs.Lines.{claimed, stood, line-claim}
 use borrow.Author.Needs.{needs}
 use Rattle.judgement.proofs.line_claim.Statement.{statement}
 use Rattle.judgement.proofs.line_claim.Tie as tie
@@ -19,8 +16,8 @@ use Rattle.judgement.proofs.line_claim.Tie as tie
 fits : (s : tie.After-at-round) → s .at-round .result .above ≤ length (s .at-round .result .point)
 fits s =
     let ok = s .at-round .ok in
-    let size : length (s .at-round .result .point) ≡ maxExponent = search needs in
-    omega (arith, size, s .at-round .ensures .0 .above)
+    let size : length (s .at-round .result .point) ≡ rowLength = search needs in
+    omega (arith, size, s .at-round .ensures .within .above)
 
 exponent-requires : tie.Need-exponent-requires
 exponent-requires c κs = search needs
@@ -58,11 +55,11 @@ returns c h =
     let own = gates .before .before .before .before .before .before in
     let a = own .before .before .before .before .args in
     let st = own .at-round .result in
-    let t = stood (a .circuit .now) (a .layer) (own .before .exponent .result) (a .past .now) st h (own .before .exponent .ensures) (own .at-round .ensures .1) in
+    let t = stood (a .circuit .now) (a .layer) (own .before .exponent .result) (a .past .now) st h (own .before .exponent .ensures) (own .at-round .ensures) in
     let f = prime-modulus (a .circuit .now) (h .legal) _ _ (gates .before .before .prime .ensures) (gates .before .of .ensures) in
-    line-claim (a .circuit .now) (a .layer) (a .past .now) h st t (gates .gates-above .result .now) (gates .gates-above .ensures) (a .x) (a .y) (c .combined .result)
-    (c .combined .ensures
-    ∙ ap (λ (p : ℕ). combined (words p) (gatesIn (gates .gates-above .result .now)) (take (st .above) (st .point)) (take (st .own) (st .u)) (take (st .own) (st .v)) (a .x) (a .y)) f)
+    let gs = gates .gates-above .result .now in
+    line-claim (a .circuit .now) (a .layer) (a .past .now) h st t gs (gates .gates-above .ensures) (a .x) (a .y) (c .combined .result)
+    (c .combined .ensures ∙ ap (λ (p : ℕ). claimed p gs st (a .x) (a .y)) f)
 
 pub line-claim-spec : {M : Type 1} → statement M
 line-claim-spec =

@@ -3,8 +3,8 @@
 use Prim.Native.Nat.{ℕ}
 use borrow.Author.Needs.{needs}
 use lib.ListN.{replicate, length-replicate}
-use Rattle.lists.proofs.Buffer.{put-size, put-front}
-use Rattle.circuit.specs.Limits.{maxExponent}
+use Rattle.lists.proofs.Front.{front-put}
+use Rattle.extension.specs.Limits.{rowLength}
 use Rattle.standing.proofs.row.Statement.{statement}
 use Rattle.standing.proofs.row.Tie as tie
 
@@ -17,9 +17,7 @@ put-requires c κs = search needs
 returns : tie.Need-returns
 returns c =
     let l = c .before .before .before .before .args .coordinates .now in
-    let empty = replicate {A = ℕ} maxExponent 0 in
-    let size = length-replicate {A = ℕ} maxExponent 0 in
-    record { size = put-size l empty _ maxExponent size (c .before .put .ensures); holds = put-front l empty _ maxExponent size (c .before .put .ensures) }
+    front-put rowLength l (replicate {A = ℕ} rowLength 0) _ (length-replicate {A = ℕ} rowLength 0) (c .before .put .ensures)
 
 pub row-spec : {M : Type 1} → statement M
 row-spec = tie.close (tie.spec slice-aggregate-put put-requires returns)

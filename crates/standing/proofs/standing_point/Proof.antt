@@ -2,12 +2,12 @@
 -- Assumes nothing.
 use Prim.Native.Nat.{ℕ, _-_}
 use lib.ListN.{length, getD}
-use mathlib.Core.Path.{refl, ap, _∙_}
+use mathlib.Core.Path.{ap, _∙_}
 use native.Mathlib.Omega.{arith}
 use Rattle.algebra.specs.Numbers.{words}
 use Rattle.circuit.proofs.Layers.{prime-modulus}
 use Rattle.sumcheck.specs.Summand.{linePoint}
-use Rattle.standing.proofs.Points.{standing-sizes, first-row, standing-row}
+use Rattle.standing.proofs.Points.{standing-enough, first-row, standing-row}
 use borrow.Author.Needs.{needs}
 use Rattle.standing.proofs.standing_point.Statement.{statement}
 use Rattle.standing.proofs.standing_point.Tie as tie
@@ -38,8 +38,9 @@ add-if2 c = search needs
 returns-2 : tie.Need-returns-2
 returns-2 c h =
     let start = c .before .before .before .before .before in
-    let sizes = standing-sizes (start .args .circuit .now) (start .args .past .now) (start .args .layer) (c .before .exponent .result) h (c .before .before .if1 .left) (c .before .exponent .ensures) in
-    absurd (omega (arith, sizes .enough, c .if2 .taken))
+    let k = c .before .exponent in
+    let enough = standing-enough _ (start .args .past .now) (start .args .layer) (k .result) h (c .before .before .if1 .left) (k .ensures) in
+    absurd (omega (arith, enough, c .if2 .taken))
 
 sub-t : tie.Need-sub-t
 sub-t c = search needs
@@ -105,8 +106,8 @@ returns-3 c h =
     let first = c .before .before .before .before .before .before .row2 in
     let second = c .before .before .before .before .row3 in
     let line = c .line-point .ensures ∙ ap (λ (p : ℕ). linePoint (words p) (first .result) (second .result) (getD past (length past - 1) 0)) f in
-    standing-row l past (start .args .layer) (at .exponent .result) _ _ _ _ _ _ h (at .before .if1 .left) (at .exponent .ensures) refl refl refl
-    (first .ensures) (second .ensures) line
+    standing-row l past (start .args .layer) (at .exponent .result) _ _ _ h (at .before .if1 .left) (at .exponent .ensures)
+    (record { first = first .ensures; second = second .ensures; point = line })
 
 pub standing-point-spec : {M : Type 1} → statement M
 standing-point-spec =

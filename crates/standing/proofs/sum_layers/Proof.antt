@@ -70,7 +70,8 @@ loop-again c =
       omega (arith, more, at .loop .inv .2),
       λ h. (
         search needs,
-        sum-turn l (start .args .first) (start .args .a) (at .loop .i) (at .loop .sum) (c .exponent .result) (h .legal) (at .loop .inv .0) (search needs) (at .loop .inv .3 h .1) (c .exponent .ensures),
+        sum-turn l (start .args .first) (start .args .a) (at .loop .i) (at .loop .sum) (c .exponent .result) (h .legal) (at .loop .inv .0)
+            (search needs) (at .loop .inv .3 h .1) (c .exponent .ensures),
       ),
     )
 

@@ -1,17 +1,16 @@
 -- `folded` meets its contract. The loop keeps `Fixed`: at the front stand the values with their first i variables fixed.
 -- Assumes nothing.
 use borrow.Author.Needs.{needs}
-use Prim.Native.Nat.{ℕ, _-_}
+use Prim.Native.Nat.{_-_}
 use native.Mathlib.Omega.{arith}
-use mathlib.Core.Path.{_≡_, refl, sym, ap, _∙_}
+use mathlib.Core.Path.{_≡_, refl, sym, _∙_}
 use lib.ListN.{length, take, getD}
 use lib.Seq.{length-take-le, getD-take}
-use Rattle.lists.proofs.Buffer.{put-size, put-front}
+use Rattle.lists.proofs.Front.{front-of, front-put, front-take}
 use Rattle.lists.proofs.Parts.{length-most}
 use Rattle.extension.specs.Limits.{rowLength}
 use Rattle.field.specs.Modulus.{numbers}
 use Rattle.tables.specs.Limits.{tableWidth}
-use Rattle.tables.proofs.Front.{table}
 use Rattle.tables.proofs.Folding.{Fixed, none-fixed, fix-next, all-fixed}
 use Rattle.tables.proofs.folded.Statement.{statement}
 use Rattle.tables.proofs.folded.Tie as tie
@@ -42,8 +41,8 @@ loop-holds c =
     let table = start .args .table .now in
     let size = written .before .before .if1 .left in
     let count : c .before .least .result ≡ length (take tableWidth values) = length-most tableWidth _ _ values refl (c .before .least .ensures) in
-    none-fixed _ _ _ _ (c .before .least .result) (omega (arith, c .before .least .ensures)) (put-size values table _ tableWidth size (written .put .ensures))
-    (ap (λ (n : ℕ). take n (written .put .last .0)) count ∙ put-front values table _ tableWidth size (written .put .ensures))
+    let front = front-put tableWidth values table _ size (written .put .ensures) in
+    none-fixed _ _ _ _ (c .before .least .result) (omega (arith, c .before .least .ensures)) (front .size) (front-take front _ count)
 
 slice-relend-prefix-fold : tie.Need-slice-relend-prefix-fold Inv-loop μ-loop
 slice-relend-prefix-fold c = search needs
@@ -88,7 +87,7 @@ returns-2 c =
     let at = c .before in
     let start = at .before .before .before .before .before .before .before .before .before .before in
     let count = length-most (start .args .k) rowLength _ (start .args .t3) (search needs) (at .before .least2 .ensures) in
-    let front = table _ _ (at .loop .n) (at .loop .inv .size) (at .loop .inv .within)
+    let front = front-of _ (at .loop .n) _ _ (at .loop .inv .size) (at .loop .inv .within)
     (all-fixed _ _ _ _ _ (at .loop .i) (at .loop .inv) (search needs)) in
     record { whole = λ _. front; other = λ other. absurd (other (at .before .before .before .before .before .before .before .if1 .left)) }
 

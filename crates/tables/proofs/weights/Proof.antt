@@ -6,10 +6,10 @@ use native.Mathlib.Omega.{arith}
 use mathlib.Core.Path.{_≡_, refl, sym, _∙_}
 use lib.ListN.{length, take, getD, length-take, length-set}
 use lib.Seq.{length-take-le, getD-take, take-suc-set}
+use Rattle.lists.proofs.Front.{front-of}
 use Rattle.lists.proofs.Parts.{length-most}
 use Rattle.extension.specs.Limits.{rowLength}
 use Rattle.field.specs.Modulus.{numbers}
-use Rattle.tables.proofs.Front.{table}
 use Rattle.tables.proofs.Spreading.{Weighed, none-weighed, few-weights, room, weigh-next, all-weighed}
 use Rattle.tables.proofs.weights.Statement.{statement}
 use Rattle.tables.proofs.weights.Tie as tie
@@ -89,7 +89,7 @@ same-length c = c .before .loop .inv .size ∙ sym (c .before .before .before .i
 returns-2 : tie.Need-returns-2 Inv-loop μ-loop
 returns-2 c =
     let at = c .before in
-    let front = table _ _ (at .loop .n) (at .loop .inv .size) (few-weights _ _ _ _ (at .loop .left) (at .loop .inv))
+    let front = front-of _ (at .loop .n) _ _ (at .loop .inv .size) (few-weights _ _ _ _ (at .loop .left) (at .loop .inv))
     (all-weighed _ _ _ _ (at .loop .left) (at .loop .inv) (search needs)) in
     record { whole = λ _. front; other = λ other. absurd (other (at .before .before .if1 .left)) }
 
