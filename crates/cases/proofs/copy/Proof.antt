@@ -5,7 +5,7 @@ use Prim.Native.Nat.{_≤_}
 use native.Mathlib.Omega.{arith}
 use lib.ListN.{length}
 use lib.Seq.{length-take-le}
-use Rattle.lists.proofs.Buffer.{put-size}
+use Rattle.lists.proofs.Front.{front-put}
 use borrow.Author.Needs.{needs}
 use Rattle.cases.proofs.copy.Statement.{statement}
 use Rattle.cases.proofs.copy.Tie as tie
@@ -24,7 +24,8 @@ returns c =
     let put = c .before .before .put in
     let n = c .before .before .before .before .least in
     let args = c .before .before .before .before .before .before .before .args in
-    let size = put-size (args .words .now) (args .buffer .now) _ _ refl (put .ensures) in
+    let front = front-put _ (args .words .now) (args .buffer .now) _ refl (put .ensures) in
+    let size = front .size in
     let short : n .result ≤ length (put .last .0) = omega arith in
     ((short, sym (length-take-le (n .result) (put .last .0) short)), (n .ensures, put .ensures))
 
