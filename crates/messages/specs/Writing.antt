@@ -33,5 +33,5 @@ abbrev pub WritesIf : Bool → List ℕ → ℕ → ℕ → List ℕ → List �
 WritesIf line c layer round past vs before after = isLine c (place layer round) ≡ line → WritesFrom c layer round past vs before after
 
 -- the same from all layers' values
-abbrev pub Writes : List ℕ → ℕ → ℕ → List ℕ → List ℕ → List ℕ → List ℕ → Type 0
-Writes c layer round past values before after = WritesFrom c layer round past (valuesIn c layer values) before after
+abbrev pub WritesMessage : List ℕ → ℕ → ℕ → List ℕ → List ℕ → List ℕ → List ℕ → Type 0
+WritesMessage c layer round past values before after = WritesFrom c layer round past (valuesIn c layer values) before after

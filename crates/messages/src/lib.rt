@@ -2,7 +2,7 @@
 // coins are not those before the place, the values are not the layers', or the buffer has no room.
 use field::Field;
 ghost use mathlib.Core.Bool.{true, false};
-ghost use Rattle.messages.specs.Writing.{Writes, WritesIf};
+ghost use Rattle.messages.specs.Writing.{WritesMessage, WritesIf};
 
 // Writes the message of a sum round to the buffer's front, from the values of its layer.
 fn write_sum(
@@ -65,7 +65,7 @@ pub fn write_message(
     values: &[u32],
     buffer: &mut [u32],
 )
-    ensures { λ _. ⌜ Writes (now (circuit .entry)) layer round (now (past .entry)) (now (values .entry)) (now (buffer .entry)) (now (buffer .exit)) ⌝ }
+    ensures { λ _. ⌜ WritesMessage (now (circuit .entry)) layer round (now (past .entry)) (now (values .entry)) (now (buffer .entry)) (now (buffer .exit)) ⌝ }
 {
     let from = layout::gates_before(circuit, layer);
     let to = from + layout::width(layout::exponent(circuit, layer));
