@@ -9,6 +9,7 @@ use lib.Dec.{leb}
 use lib.ListN.{length, take, getD}
 use borrow.Author.Tests.{lt-leb, le-leb}
 use Rattle.lists.specs.Buffer.{over}
+use Rattle.lists.proofs.Front.{front-take}
 use Rattle.refusal.specs.Number.{numberOf}
 use Rattle.refusal.specs.Order.{need, first}
 use Rattle.refusal.specs.declared.Cause.{Cause}
@@ -23,6 +24,7 @@ use Rattle.evaluation.specs.Layer.{AllValues}
 use Rattle.evaluation.specs.declared.Evaluated.the-variants.{Output, Refused}
 use Rattle.circuit.proofs.Gates.{count-all}
 use Rattle.circuit.proofs.Loading.{legal-lists}
+use Rattle.circuit.proofs.Values.{all-size}
 use Rattle.evaluation.proofs.Evaluating.{output-first}
 
 module _ (c input before : List ℕ) where
@@ -51,10 +53,10 @@ module _ (c input before : List ℕ) where
   unfolding evaluateAnswer evaluateBuffer evaluateCause
   left-values total values e n l v =
       let fits : leb (valueCount c) (length before) ≡ true = le-leb (valueCount c) (length before) (omega arith) in
-      let first : getD values 0 0 ≡ value c input = output-first c input e values (v .holds) in
+      let first : getD values 0 0 ≡ value c input = output-first c input e values v in
       record {
         answer = simp (e, fits) (ap output first);
-        buffer = ap (λ (t : List ℕ). over t before) (ap (λ (m : ℕ). take m values) n ∙ v .holds) ∙ sym (simp (e, fits));
+        buffer = ap (λ (t : List ℕ). over t before) (front-take v total (n ∙ sym (all-size c input e))) ∙ sym (simp (e, fits));
       }
 
   -- the gates and the input are all the values

@@ -9,8 +9,10 @@ use lib.ListN.{length, take, drop, getD, length-append, length-drop, take-append
 use lib.Seq.{length-take-le, drop-at, drop-drop, getD-take, take-all, take-append-add}
 use Rattle.lists.specs.Each.{All}
 use Rattle.lists.specs.Buffer.{over}
+use Rattle.lists.specs.Front.{Front}
 use Rattle.lists.proofs.Each.{all-weaken}
-use Rattle.lists.proofs.Buffer.{length-over, take-over, rest-lent, rest-back}
+use Rattle.lists.proofs.Buffer.{length-over, rest-lent, rest-back}
+use Rattle.lists.proofs.Front.{front-over, front-take}
 use Rattle.algebra.specs.Numbers.{Numbers, words}
 use Rattle.circuit.specs.Limits.{maxValues}
 use Rattle.circuit.specs.Gate.{Gate, gateValue}
@@ -45,10 +47,11 @@ module _ (values part ws : List ℕ) (at : ℕ) (size : length values ≡ maxVal
       length-append (take at values) (over ws (drop at values)) ∙ omega (arith, front, length-over ws (drop at values) room, length-drop at values)
 
   pub placed : Placed ws at (take at values ++ (part ++ drop (maxValues - at) (drop at values)))
-  placed = record {
-    size = ap length put ∙ put-size;
-    there = ap (λ (l : List ℕ). take (length ws) (drop at l)) put ∙ ap (take (length ws)) put-rest ∙ take-over ws (drop at values);
-  }
+  placed = (
+    ap length put ∙ put-size,
+    subst (λ (l : List ℕ). Front (maxValues - at) ws l) (sym (ap (drop at) put ∙ put-rest))
+        (front-over (maxValues - at) ws (drop at values) (length-drop at values ∙ ap (λ (n : ℕ). n - at) size) (omega arith)),
+  )
 
 -- from the place of layer j on, the array holds all values
 pub record Filled (c input values : List ℕ) (j at : ℕ) : Type 0 where
@@ -91,8 +94,8 @@ module _ (c input : List ℕ) (e : listsCause c input ≡ 0) where
         record {
           inside = le-refl (depth c);
           place = place;
-          size = placed .size;
-          holds = ap (λ (m : ℕ). take m (drop at values)) n ∙ placed .there ∙ sym last;
+          size = placed .0;
+          holds = front-take (placed .1) (valueCount c - at) n ∙ sym last;
         }
 
   -- ONE LAYER MORE, where the array is filled from layer j + 1 on
@@ -200,14 +203,18 @@ module _ (c input : List ℕ) (e : listsCause c input ≡ 0) where
       let whole : valueCount c - 0 ≡ valueCount c = sub-zero (valueCount c) in
       record {
         size = F .size;
-        holds = sym (ap₂ (λ (n m : ℕ). take n (drop m values)) (ap (λ (m : ℕ). valueCount c - m) top ∙ whole) top) ∙ F .holds ∙ ap (λ (m : ℕ). drop m all) top;
+        holds =
+            ap (λ (n : ℕ). take n values) (all-size c input e)
+            ∙ sym (ap₂ (λ (n m : ℕ). take n (drop m values)) (ap (λ (m : ℕ). valueCount c - m) top ∙ whole) top)
+            ∙ F .holds ∙ ap (λ (m : ℕ). drop m all) top;
       }
 
   -- the array's first word is the output
-  pub output-first : (values : List ℕ) → take (valueCount c) values ≡ all → getD values 0 0 ≡ value c input
+  pub output-first : (values : List ℕ) → AllValues c input values → getD values 0 0 ≡ value c input
   unfolding value outputExponent
-  output-first values v =
+  output-first values f =
       let some : gatesBefore c 0 + 1 ≤ valueCount c = layer-inside 0 (omega arith) in
+      let v = front-take f (valueCount c) (sym (all-size c input e)) in
       sym (getD-take (valueCount c) values 0 0 (omega arith)) ∙ ap (λ (t : List ℕ). getD t 0 0) v
       ∙ sym (getD-take 1 all 0 0 (omega arith))
       ∙ ap (λ (m : ℕ). getD (take 1 (drop m all)) 0 0) (count-none c) ∙ ap (λ (t : List ℕ). getD t 0 0) (layer-part c input e 0 (omega arith))

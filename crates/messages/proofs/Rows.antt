@@ -15,9 +15,11 @@ use borrow.Author.Tests.{eq-eqb, eqb-true}
 use Rattle.lists.specs.Each.{All}
 use Rattle.lists.specs.Buffer.{over}
 use Rattle.lists.proofs.Buffer.{over-whole}
+use Rattle.lists.proofs.Front.{front-take}
 use Rattle.primes.specs.Prime.{Prime}
 use Rattle.primes.proofs.Prime.{listed-prime, listed-least}
 use Rattle.algebra.specs.Numbers.{Numbers, words}
+use Rattle.extension.specs.Limits.{rowLength}
 use Rattle.circuit.specs.Limits.{maxExponent}
 use Rattle.circuit.specs.Gate.{Gate}
 use Rattle.circuit.specs.Circuit.{primeOf, depth, exponentAt}
@@ -26,14 +28,12 @@ use Rattle.circuit.proofs.Layers.{legal-wires}
 use Rattle.layout.specs.Gates.{GatesAbove}
 use Rattle.sumcheck.specs.Message.{sumMessage, lineMessage}
 use Rattle.sumcheck.specs.Line.{lineHalving}
-use Rattle.sumcheck.specs.Gatewise.{sumByGates}
 use Rattle.sumcheck.proofs.Words.{sum-message-words, line-message-words}
 use Rattle.sumcheck.proofs.Line.{line-by-halves, length-lineHalving}
 use Rattle.summand.specs.Gates.{gatesIn}
-use Rattle.tables.specs.Limits.{tableWidth}
 use Rattle.line.specs.Row.{padded}
 use Rattle.line.proofs.Parts.{take-front}
-use Rattle.sums.specs.Round.{fixedFirst, fixedSecond}
+use Rattle.sums.specs.Round.{roundMessage}
 use Rattle.sums.proofs.Rounds.{honest-round}
 use Rattle.protocol.specs.Rounds.{place, isLine, AtRound}
 use Rattle.protocol.specs.Judge.{fixed, pointAt, gatesAbove, messageLength}
@@ -51,7 +51,7 @@ written words buffer after m n room e put =
     over-whole (take n words) buffer after (omega (arith, length-take n words)) put ∙ ap (λ (l : List ℕ). over l buffer) e
 
 -- the rows of a list's two parts give the list back
-rows-back : (k : ℕ) (xs u v : List ℕ) → k ≤ maxExponent → length xs ≤ 2 * k → Row (take k xs) u → Row (drop k xs) v
+rows-back : (k : ℕ) (xs u v : List ℕ) → k ≤ rowLength → length xs ≤ 2 * k → Row (take k xs) u → Row (drop k xs) v
     → take (length xs) (take k u ++ take k v) ≡ xs
 rows-back k xs u v small fits first second = go (decLt (length xs) k)
   where
@@ -63,7 +63,7 @@ rows-back k xs u v small fits first second = go (decLt (length xs) k)
         let all : take k xs ≡ xs = take-all k xs (omega arith) in
         take-append-le (length xs) (take k u) (take k v) (omega (arith, wide))
         ∙ take-take (length xs) k u (omega arith)
-        ∙ ap (λ (n : ℕ). take n u) (sym (ap length all)) ∙ first .holds ∙ all
+        ∙ front-take first (length xs) (sym (ap length all)) ∙ all
     go (no h) =
         let n : ℕ = length xs - k in
         let size : length (take k xs) ≡ k = length-take-le k xs (omega arith) in
@@ -72,9 +72,16 @@ rows-back k xs u v small fits first second = go (decLt (length xs) k)
         ap (λ (m : ℕ). take m (take k u ++ take k v)) sum
         ∙ take-append-add (take k u) (take k v) n
         ∙ ap₂ (λ (a b : List ℕ). a ++ b)
-        (ap (λ (m : ℕ). take m u) (sym size) ∙ first .holds)
-        (take-take n k v (omega arith) ∙ ap (λ (m : ℕ). take m v) (sym rest) ∙ second .holds)
+        (front-take first k (sym size)) (take-take n k v (omega arith) ∙ front-take second n (sym rest))
         ∙ take-append-drop k xs
+
+-- what the code computes from a stand, modulo p
+abbrev pub summed : ℕ → List ℕ → List ℕ → ℕ → Stand → List ℕ
+summed p gates vs round s =
+    roundMessage (words p) (min (s .own) rowLength) (gatesIn gates) (take (s .above) (s .point)) vs (s .u ∷ s .v ∷ []) round
+
+abbrev pub lined : ℕ → List ℕ → Stand → List ℕ
+lined p vs s = padded (lineHalving (words p) vs (take (s .own) (s .u)) (take (s .own) (s .v)))
 
 module _ (c : List ℕ) (layer round : ℕ) (past vs buffer : List ℕ) (h : Writable c layer round past vs buffer) where
   here : AtRound c (place layer round) (length past)
@@ -102,6 +109,14 @@ module _ (c : List ℕ) (layer round : ℕ) (past vs buffer : List ℕ) (h : Wri
           let e : suc i - 1 ≡ i = omega arith in
           layer-count c (here .legal .sized .headed) i n ∙ ap (λ (j : ℕ). 2 ^ exponentAt c j) (sym e)
 
+  -- the message of a round, by whether it is a line
+  abbrev either : Bool → List ℕ
+  either b =
+      let k = exponentAt c layer in
+      let xs = fixed c layer past in
+      let N = words (primeOf c) in
+      cond b (lineMessage N vs (take k xs) (drop k xs)) (sumMessage N k (gatesAbove c layer) (pointAt c layer past) vs xs)
+
   -- a message has its round's length
   pub message-size : length (messageFrom c vs (place layer round) past) ≡ messageLength c (place layer round)
   message-size = go (isLine c (place layer round)) refl
@@ -118,16 +133,14 @@ module _ (c : List ℕ) (layer round : ℕ) (past vs buffer : List ℕ) (h : Wri
       pos : 0 < primeOf c
       pos = let p = least in omega arith
 
-      go : (b : Bool) → isLine c (place layer round) ≡ b
-          → length (cond {A = List ℕ} (isLine c (place layer round)) (lineMessage N vs (take k xs) (drop k xs)) (sumMessage N k (gatesAbove c layer) (pointAt c layer past) vs xs))
-          ≡ messageLength c (place layer round)
+      go : (b : Bool) → isLine c (place layer round) ≡ b → length (either (isLine c (place layer round))) ≡ messageLength c (place layer round)
       go true e =
           let all : round ≡ 2 * k = eqb-true round (2 * k) e in
           let wide : length (take k xs) ≡ k = length-take-le k xs (omega (arith, all, own-coins c layer round past here)) in
-          ap (λ (b : Bool). length (cond {A = List ℕ} b (lineMessage N vs (take k xs) (drop k xs)) (sumMessage N k (gatesAbove c layer) (pointAt c layer past) vs xs))) e
+          ap (λ (b : Bool). length (either b)) e
           ∙ line-message-words (primeOf c) pos vs (take k xs) (drop k xs) .0 ∙ ap suc wide ∙ sym (add-one k) ∙ length-of-line c (place layer round) e
       go false e =
-          ap (λ (b : Bool). length (cond {A = List ℕ} b (lineMessage N vs (take k xs) (drop k xs)) (sumMessage N k (gatesAbove c layer) (pointAt c layer past) vs xs))) e
+          ap (λ (b : Bool). length (either b)) e
           ∙ sum-message-words (primeOf c) pos k (gatesAbove c layer) (pointAt c layer past) vs xs .0 ∙ length-of-sum c (place layer round) e
 
   pub sum-written : (ws after : List ℕ) → ws ≡ messageFrom c vs (place layer round) past → after ≡ over (take (length buffer) ws) buffer
@@ -140,46 +153,45 @@ module _ (c : List ℕ) (layer round : ℕ) (past vs buffer : List ℕ) (h : Wri
     rows = s .u ∷ s .v ∷ []
 
     pub sum-words : isLine c (place layer round) ≡ false → (gates : List ℕ) → GatesAbove c layer gates → (r : List ℕ)
-        → r ≡ sumByGates (words (primeOf c)) (min (s .own) maxExponent) (gatesIn gates) (take (s .above) (s .point)) (take tableWidth vs) (fixedFirst (min (s .own) maxExponent) round rows) (fixedSecond (min (s .own) maxExponent) round rows)
-        → r ≡ messageFrom c vs (place layer round) past
+        → r ≡ summed (primeOf c) gates vs round s → r ≡ messageFrom c vs (place layer round) past
     sum-words nl gates above r e =
         let N = words (primeOf c) in
         let k : ℕ = exponentAt c layer in
         let xs : List ℕ = fixed c layer past in
-        let ms : ℕ → List Gate → List ℕ → List ℕ =
-        λ k gs z. sumByGates N (min k maxExponent) gs z (take tableWidth vs) (fixedFirst (min k maxExponent) round rows) (fixedSecond (min k maxExponent) round rows) in
+        let ms : ℕ → List Gate → List ℕ → List ℕ = λ k gs z. roundMessage N (min k rowLength) gs z vs rows round in
         let size : length xs ≡ round = own-coins c layer round past here in
-        let small : k ≤ maxExponent = own-small c layer round past here in
+        let few : k ≤ maxExponent = own-small c layer round past here in
+        let small : k ≤ rowLength = omega arith in
         let reached : round ≤ 2 * k = here .reached in
         let ne : ¬ (round ≡ 2 * k) = λ (q : round ≡ 2 * k). true≢false (sym (eq-eqb round (2 * k) q) ∙ nl) in
         let point = above-point c layer round past here s t in
         let law =
-        honest-round (primeOf c) prime (let p = least in omega arith) k round (gatesAbove c layer) (pointAt c layer past) vs rows small (omega (arith, reached, ne)) (t .first .size) (t .second .size)
-        (h .sized) wired (le-of-eq (count-above ∙ ap (λ (n : ℕ). 2 ^ n) (sym (point-size c layer round past here)))) in
+        honest-round (primeOf c) prime (let p = least in omega arith) k round (gatesAbove c layer) (pointAt c layer past) vs rows few
+        (omega (arith, reached, ne)) (t .first .size) (t .second .size) (h .sized) wired (le-of-eq (count-above ∙ ap (λ (n : ℕ). 2 ^ n) (sym (point-size c layer round past here)))) in
         let back : take round (take k (s .u) ++ take k (s .v)) ≡ xs =
         ap (λ (n : ℕ). take n (take k (s .u) ++ take k (s .v))) (sym size) ∙ rows-back k xs (s .u) (s .v) small (omega arith) (t .first) (t .second) in
         e ∙ ap (λ (n : ℕ). ms n (gatesIn gates) (take (s .above) (s .point))) (t .own)
         ∙ ap₂ (ms k) (gates-above c layer round past here gates above) point ∙ law
         ∙ ap (sumMessage N k (gatesAbove c layer) (pointAt c layer past) vs) back
-        ∙ sym (ap (λ (b : Bool). cond b (lineMessage N vs (take k xs) (drop k xs)) (sumMessage N k (gatesAbove c layer) (pointAt c layer past) vs xs)) nl)
+        ∙ sym (ap either nl)
 
     pub line-words : isLine c (place layer round) ≡ true → (r : List ℕ) (n : ℕ) → n ≡ messageLength c (place layer round)
-        → r ≡ padded (lineHalving (words (primeOf c)) vs (take (s .own) (s .u)) (take (s .own) (s .v)))
-        → take n r ≡ messageFrom c vs (place layer round) past
+        → r ≡ lined (primeOf c) vs s → take n r ≡ messageFrom c vs (place layer round) past
     line-words il r n en e =
         let N = words (primeOf c) in
         let k : ℕ = exponentAt c layer in
         let xs : List ℕ = fixed c layer past in
-        let small : k ≤ maxExponent = own-small c layer round past here in
         let all : round ≡ 2 * k = eqb-true round (2 * k) il in
         let size : length xs ≡ 2 * k = own-coins c layer round past here ∙ all in
+        let small : k ≤ maxExponent = own-small c layer round past here in
         let wide-u : length (take k xs) ≡ k = length-take-le k xs (omega arith) in
         let wide-v : length (drop k xs) ≡ k = length-drop k xs ∙ omega arith in
-        let u : take (s .own) (s .u) ≡ take k xs = ap (λ (m : ℕ). take m (s .u)) (t .own ∙ sym wide-u) ∙ t .first .holds in
-        let v : take (s .own) (s .v) ≡ drop k xs = ap (λ (m : ℕ). take m (s .v)) (t .own ∙ sym wide-v) ∙ t .second .holds in
+        let u : take (s .own) (s .u) ≡ take k xs = front-take (t .first) (s .own) (t .own ∙ sym wide-u) in
+        let v : take (s .own) (s .v) ≡ drop k xs = front-take (t .second) (s .own) (t .own ∙ sym wide-v) in
         let same : length (take k xs) ≡ length (drop k xs) = wide-u ∙ sym wide-v in
         let count : length (lineHalving N vs (take k xs) (drop k xs)) ≡ n =
         length-lineHalving N vs (take k xs) (drop k xs) same ∙ ap suc wide-u ∙ sym (add-one k) ∙ length-of-line c (place layer round) il ∙ sym en in
         take-front (lineHalving N vs (take k xs) (drop k xs)) _ r n (e ∙ ap₂ (λ (a b : List ℕ). padded (lineHalving N vs a b)) u v) count
-        ∙ line-by-halves (primeOf c) prime vs (take k xs) (drop k xs) same (let p = least in omega (arith, wide-u)) (h .sized ∙ ap (λ (m : ℕ). 2 ^ m) (sym wide-u)) (h .residues)
-        ∙ sym (ap (λ (b : Bool). cond b (lineMessage N vs (take k xs) (drop k xs)) (sumMessage N k (gatesAbove c layer) (pointAt c layer past) vs xs)) il)
+        ∙ line-by-halves (primeOf c) prime vs (take k xs) (drop k xs) same (let p = least in omega (arith, wide-u, small))
+        (h .sized ∙ ap (λ (m : ℕ). 2 ^ m) (sym wide-u)) (h .residues)
+        ∙ sym (ap either il)

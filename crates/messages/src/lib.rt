@@ -1,12 +1,8 @@
 // The one writer of an honest message into a lent buffer. Every function is total; it promises nothing where the list is no legal circuit, the
 // coins are not those before the place, the values are not the layers', or the buffer has no room.
 use field::Field;
-ghost use mathlib.Core.Path.{_≡_};
 ghost use mathlib.Core.Bool.{true, false};
-ghost use Rattle.lists.specs.Buffer.{over};
-ghost use Rattle.protocol.specs.Rounds.{place, isLine};
-ghost use Rattle.protocol.specs.Prove.{messageFrom};
-ghost use Rattle.messages.specs.Writing.{valuesIn, Writable};
+ghost use Rattle.messages.specs.Writing.{WritesMessage, WritesIf};
 
 // Writes the message of a sum round to the buffer's front, from the values of its layer.
 fn write_sum(
@@ -17,7 +13,7 @@ fn write_sum(
     values: &[u32],
     buffer: &mut [u32],
 )
-    ensures { λ _. ⌜ (Writable (now (circuit .entry)) layer round (now (past .entry)) (now (values .entry)) (now (buffer .entry)) → isLine (now (circuit .entry)) (place layer round) ≡ false → now (buffer .exit) ≡ over (messageFrom (now (circuit .entry)) (now (values .entry)) (place layer round) (now (past .entry))) (now (buffer .entry))) ⌝ }
+    ensures { λ _. ⌜ WritesIf false (now (circuit .entry)) layer round (now (past .entry)) (now (values .entry)) (now (buffer .entry)) (now (buffer .exit)) ⌝ }
 {
     let s = standing::at_round(circuit, layer, round, past);
     let point = s.point;
@@ -47,7 +43,7 @@ fn write_line(
     values: &[u32],
     buffer: &mut [u32],
 )
-    ensures { λ _. ⌜ (Writable (now (circuit .entry)) layer round (now (past .entry)) (now (values .entry)) (now (buffer .entry)) → isLine (now (circuit .entry)) (place layer round) ≡ true → now (buffer .exit) ≡ over (messageFrom (now (circuit .entry)) (now (values .entry)) (place layer round) (now (past .entry))) (now (buffer .entry))) ⌝ }
+    ensures { λ _. ⌜ WritesIf true (now (circuit .entry)) layer round (now (past .entry)) (now (values .entry)) (now (buffer .entry)) (now (buffer .exit)) ⌝ }
 {
     let s = standing::at_round(circuit, layer, round, past);
     let own = s.own;
@@ -69,7 +65,7 @@ pub fn write_message(
     values: &[u32],
     buffer: &mut [u32],
 )
-    ensures { λ _. ⌜ (Writable (now (circuit .entry)) layer round (now (past .entry)) (valuesIn (now (circuit .entry)) layer (now (values .entry))) (now (buffer .entry)) → now (buffer .exit) ≡ over (messageFrom (now (circuit .entry)) (valuesIn (now (circuit .entry)) layer (now (values .entry))) (place layer round) (now (past .entry))) (now (buffer .entry))) ⌝ }
+    ensures { λ _. ⌜ WritesMessage (now (circuit .entry)) layer round (now (past .entry)) (now (values .entry)) (now (buffer .entry)) (now (buffer .exit)) ⌝ }
 {
     let from = layout::gates_before(circuit, layer);
     let to = from + layout::width(layout::exponent(circuit, layer));

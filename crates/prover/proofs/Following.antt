@@ -106,10 +106,14 @@ module _ (c input prefix before : List ℕ) where
             → after ≡ over (messageFrom c (valuesIn c (here .layer) values) here prefix) before → ProvesOne c input prefix before (Written n) after
         unfolding proveOneAnswer proveOneBuffer honest
         one-written n values after en room a e =
-            let none-left : proveOneCause c input prefix before ≡ 0 = only-room ∙ ap (λ (b : Bool). need b 10 0) (le-leb (messageLength c here) (length before) (omega arith)) in
-            let same : messageFrom c (valuesIn c (here .layer) values) here prefix ≡ honest c input (placeOf c prefix) prefix =
-            ap (λ (vs : List ℕ). messageFrom c vs here prefix) (layer-values c input none values a (here .layer) (there .last)) ∙ ap (λ (r : Place). honest c input r prefix) (sym (named c prefix here there)) in
+            let name : here ≡ placeOf c prefix = sym (named c prefix here there) in
+            let fits = le-leb (messageLength c here) (length before) (omega arith) in
+            let none-left : proveOneCause c input prefix before ≡ 0 = only-room ∙ ap (λ (b : Bool). need b 10 0) fits in
+            let said : List ℕ = honest c input (placeOf c prefix) prefix in
+            let same : messageFrom c (valuesIn c (here .layer) values) here prefix ≡ said =
+            ap (λ (vs : List ℕ). messageFrom c vs here prefix) (layer-values c input none values a (here .layer) (there .last))
+            ∙ ap (λ (r : Place). honest c input r prefix) name in
             record {
-              answer = ap wrote (en ∙ ap (messageLength c) (sym (named c prefix here there))) ∙ sym (ap (λ (k : ℕ). oneOf k (messageLength c (placeOf c prefix))) none-left);
-              buffer = e ∙ ap (λ (m : List ℕ). over m before) same ∙ sym (ap (λ (k : ℕ). cond (eqb k 0) (over (honest c input (placeOf c prefix) prefix) before) before) none-left);
+              answer = ap wrote (en ∙ ap (messageLength c) name) ∙ sym (ap (λ (k : ℕ). oneOf k (messageLength c (placeOf c prefix))) none-left);
+              buffer = e ∙ ap (λ (m : List ℕ). over m before) same ∙ sym (ap (λ (k : ℕ). cond (eqb k 0) (over said before) before) none-left);
             }

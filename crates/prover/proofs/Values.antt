@@ -1,16 +1,15 @@
 -- Where a layer's values stand among those of all layers, and that its messages can be written from them.
 -- Assumes nothing.
-use Prim.Native.Nat.{ℕ, _+_, _^_, _≤_, _<_}
-use mathlib.Core.Path.{_≡_, sym, ap, ap₂, _∙_, subst}
-use mathlib.Core.List.{List, [], _++_, flatten}
+use Prim.Native.Nat.{ℕ, _^_, _≤_, _<_}
+use mathlib.Core.Path.{_≡_, sym, ap, _∙_, subst}
+use mathlib.Core.List.{List, [], flatten}
 use native.Mathlib.Omega.{arith}
-use lib.ListN.{length, length-drop, take, drop, getD, take-append-drop}
-use lib.Seq.{take-append-le, drop-append-le}
+use lib.ListN.{length, getD}
 use borrow.Author.Tests.{le-leb}
 use Rattle.lists.specs.Each.{All}
 use Rattle.lists.proofs.Each.{all-at}
 use Rattle.lists.specs.Buffer.{over}
-use Rattle.lists.proofs.Buffer.{length-over, take-over}
+use Rattle.lists.proofs.Front.{front-over, front-part}
 use Rattle.circuit.specs.Limits.{maxValues}
 use Rattle.circuit.specs.Circuit.{primeOf, depth, exponentAt, gatesBefore, valueCount}
 use Rattle.circuit.specs.Legal.{listsCause}
@@ -28,11 +27,6 @@ use Rattle.protocol.specs.Rounds.{place, AtRound}
 use Rattle.protocol.specs.Judge.{messageLength}
 use Rattle.messages.specs.Writing.{valuesIn, Writable}
 
--- a part of a list's front is a part of the list
-part-of-front : (n m : ℕ) (front back : List ℕ) → m + n ≤ length front → take n (drop m (front ++ back)) ≡ take n (drop m front)
-part-of-front n m front back h =
-    ap (take n) (drop-append-le m front back (omega arith)) ∙ take-append-le n (drop m front) back (omega (arith, length-drop m front))
-
 module _ (c input : List ℕ) (e : listsCause c input ≡ 0) where
   legal : LegalCircuit c
   legal = legal-lists c input e .circuit
@@ -43,28 +37,20 @@ module _ (c input : List ℕ) (e : listsCause c input ≡ 0) where
   evaluated before after r size v =
       let room : valueCount c ≤ length before = omega (arith, size, in-limits c legal .values) in
       let holds : after ≡ over (flatten (layers c input)) before = v .buffer ∙ simp (e, le-leb (valueCount c) (length before) room) in
-      record {
-        size = ap length holds ∙ length-over (flatten (layers c input)) before (omega (arith, all-size c input e)) ∙ size;
-        holds = ap₂ take (sym (all-size c input e)) holds ∙ take-over (flatten (layers c input)) before;
-      }
+      subst (AllValues c input) (sym holds)
+      (front-over maxValues (flatten (layers c input)) before size (omega (arith, all-size c input e)))
 
   -- the output is the first of all values
   pub output-of : (values : List ℕ) → AllValues c input values → getD values 0 0 ≡ value c input
-  output-of values a = output-first c input e values (a .holds)
+  output-of values a = output-first c input e values a
 
   module _ (values : List ℕ) (a : AllValues c input values) where
     pub layer-values : (layer : ℕ) → layer ≤ depth c → valuesIn c layer values ≡ valuesAt c input layer
     layer-values layer h =
-        let n : ℕ = 2 ^ exponentAt c layer in
-        let m : ℕ = gatesBefore c layer in
-        let whole : flatten (layers c input) ++ drop (valueCount c) values ≡ values =
-        ap (λ (l : List ℕ). l ++ drop (valueCount c) values) (sym (a .holds)) ∙ take-append-drop (valueCount c) values in
-        ap (λ (l : List ℕ). take n (drop m l)) (sym whole)
-        ∙ part-of-front n m (flatten (layers c input)) (drop (valueCount c) values) (layer-room c input e layer h)
-        ∙ layer-part c input e layer h
+        front-part a (gatesBefore c layer) (2 ^ exponentAt c layer) (layer-room c input e layer h) ∙ layer-part c input e layer h
 
-    pub writable : (layer round : ℕ) (past buffer : List ℕ) → AtRound c (place layer round) (length past) → messageLength c (place layer round) ≤ length buffer
-        → Writable c layer round past (valuesIn c layer values) buffer
+    pub writable : (layer round : ℕ) (past buffer : List ℕ) → AtRound c (place layer round) (length past)
+        → messageLength c (place layer round) ≤ length buffer → Writable c layer round past (valuesIn c layer values) buffer
     unfolding valuesAt
     writable layer round past buffer at room =
         let same = layer-values layer (at .last) in
@@ -74,6 +60,7 @@ module _ (c input : List ℕ) (e : listsCause c input ≡ 0) where
           sized = ap length same ∙ layer-sizes c input e layer (at .last);
           residues =
               subst (λ (vs : List ℕ). All (λ v. v < primeOf c) vs) (sym same)
-              (all-at (λ (vs : List ℕ). All (λ v. v < primeOf c) vs) (layers c input) layer [] (omega (arith, length-all-layers c input legal)) (values-are-residues c input e));
+              (all-at (λ (vs : List ℕ). All (λ v. v < primeOf c) vs) (layers c input) layer [] (omega (arith, length-all-layers c input legal))
+              (values-are-residues c input e));
           room = room;
         }

@@ -128,7 +128,8 @@ fn by_gates(
     rcut: Cut,
 ) -> [u32; 3]
     requires { ⌜ Fits lcut × Fits rcut ⌝ }
-    ensures { λ m. ⌜ m ≡ sumsOf (numbers f) (now (weights .entry)) (side (now (lshares .entry)) (now (ltable .entry)) lcut) (side (now (rshares .entry)) (now (rtable .entry)) rcut) (gatesIn (now (gates .entry))) ⌝ }
+    ensures { λ m. ⌜ m ≡ sumsOf (numbers f) (now (weights .entry)) (side (now (lshares .entry)) (now (ltable .entry)) lcut)
+        (side (now (rshares .entry)) (now (rtable .entry)) rcut) (gatesIn (now (gates .entry))) ⌝ }
 {
     let mut zeros = Tally::empty();
     let mut ones = Tally::empty();
@@ -169,7 +170,8 @@ fn by_side(
     next: bool,
 ) -> [u32; 3]
     requires { ⌜ Fits cut × (second ≤ k) × (k ≤ maxExponent) ⌝ }
-    ensures { λ m. ⌜ m ≡ sumsOf (numbers f) (now (weights .entry)) (side (now (shares .entry)) (now (table .entry)) cut) (sideAt (numbers f) k (now (values .entry)) v second next) (gatesIn (now (gates .entry))) ⌝ }
+    ensures { λ m. ⌜ m ≡ sumsOf (numbers f) (now (weights .entry)) (side (now (shares .entry)) (now (table .entry)) cut)
+        (sideAt (numbers f) k (now (values .entry)) v second next) (gatesIn (now (gates .entry))) ⌝ }
 {
     let n = lists::least(MAX_WIDTH, values.len());
     let rcut = cut_at(k, second, next);
@@ -217,7 +219,8 @@ fn by_points(
     k: usize,
 ) -> [u32; 3]
     requires { ⌜ (first ≤ k) × (second ≤ k) × (k ≤ maxExponent) ⌝ }
-    ensures { λ m. ⌜ m ≡ sumsOf (numbers f) (now (weights .entry)) (sideAt (numbers f) k (now (values .entry)) u first (ltb first k)) (sideAt (numbers f) k (now (values .entry)) v second (leb k first)) (gatesIn (now (gates .entry))) ⌝ }
+    ensures { λ m. ⌜ m ≡ sumsOf (numbers f) (now (weights .entry)) (sideAt (numbers f) k (now (values .entry)) u first (ltb first k))
+        (sideAt (numbers f) k (now (values .entry)) v second (leb k first)) (gatesIn (now (gates .entry))) ⌝ }
 {
     let n = lists::least(MAX_WIDTH, values.len());
     let cut = cut_at(k, first, first < k);

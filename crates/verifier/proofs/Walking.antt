@@ -2,7 +2,7 @@
 -- Assumes nothing.
 use Prim.Native.Nat.{ℕ, _+_, _-_, _*_, _≤_, _<_}
 use mathlib.Core.Path.{_≡_, sym, ap, _∙_, subst}
-use mathlib.Core.List.{List}
+use mathlib.Core.List.{List, _∷_}
 use native.Mathlib.Omega.{arith}
 use lib.ListN.{length, take, drop, getD}
 use Rattle.refusal.specs.Number.{numberOf}
@@ -44,25 +44,34 @@ module _ (c input : List ℕ) (y : ℕ) (ms cs : List ℕ) where
     pub walk-starts : (n : ℕ) → n ≡ layerStart c 1 → BeforeLayer 1 n 0 y
     unfolding descent
     walk-starts n e =
-        loops.loops-start c legal (LeftAt 0 y) n e (left-all (descent c) (inputAgrees c input) (rounds c) (outputExponent c) y ms cs (h .given .coins ∙ sym (as-many c)) (h .words ∙ sym (message-words c)))
+        let coins = h .given .coins ∙ sym (as-many c) in
+        let words = h .words ∙ sym (message-words c) in
+        loops.loops-start c legal (LeftAt 0 y) n e (left-all (descent c) (inputAgrees c input) (rounds c) (outputExponent c) y ms cs coins words)
 
     pub layer-starts : (layer n at claim : ℕ) → BeforeLayer layer n at claim → layer ≤ depth c → BeforeRound layer 0 n at claim
     layer-starts layer n at claim = loops.layer-starts c legal (LeftAt at claim) layer n
 
-    pub layer-ends : (layer round n at claim : ℕ) → BeforeRound layer round n at claim → 2 * exponentAt c layer + 1 ≤ round → BeforeLayer (layer + 1) n at claim
+    pub layer-ends : (layer round n at claim : ℕ) → BeforeRound layer round n at claim → 2 * exponentAt c layer + 1 ≤ round
+        → BeforeLayer (layer + 1) n at claim
     layer-ends layer round n at claim = loops.layer-ends c legal (LeftAt at claim) layer round n
 
-    pub walk-ends : (layer n at claim : ℕ) → BeforeLayer layer n at claim → depth c < layer → finalCause (inputAgrees c input cs claim) ≡ walkFrom c input y cs ms
+    pub walk-ends : (layer n at claim : ℕ) → BeforeLayer layer n at claim → depth c < layer
+        → finalCause (inputAgrees c input cs claim) ≡ walkFrom c input y cs ms
     unfolding descent
-    walk-ends layer n at claim b out = left-none (descent c) (inputAgrees c input) (rounds c) (outputExponent c) y ms cs n at claim (loops.loops-end c legal (LeftAt at claim) layer n b out)
+    walk-ends layer n at claim b out =
+        let none = loops.loops-end c legal (LeftAt at claim) layer n b out in
+        left-none (descent c) (inputAgrees c input) (rounds c) (outputExponent c) y ms cs n at claim none
 
     module _ (layer round n at claim : ℕ) (b : BeforeRound layer round n at claim) (more : round < 2 * exponentAt c layer + 1) where
+      opened : LeftAt at claim (place layer round ∷ before-round c layer (round + 1)) n
+      opened = loops.round-opened c legal (LeftAt at claim) layer round n b more
+
       pub coin-there : n < length cs
-      coin-there = left-coin (descent c) (inputAgrees c input) (rounds c) (outputExponent c) y ms cs _ _ n at claim (loops.round-opened c legal (LeftAt at claim) layer round n b more)
+      coin-there = left-coin (descent c) (inputAgrees c input) (rounds c) (outputExponent c) y ms cs _ _ n at claim opened
 
       pub words-there : at + messageLength c (place layer round) ≤ length ms
       unfolding descent
-      words-there = left-words (descent c) (inputAgrees c input) (rounds c) (outputExponent c) y ms cs _ _ n at claim (loops.round-opened c legal (LeftAt at claim) layer round n b more)
+      words-there = left-words (descent c) (inputAgrees c input) (rounds c) (outputExponent c) y ms cs _ _ n at claim opened
 
       pub round-place : AtRound c (place layer round) (length (take n cs))
       round-place = loops.round-place c legal (LeftAt at claim) layer round n b more cs (let there = coin-there in omega arith)
@@ -79,7 +88,7 @@ module _ (c input : List ℕ) (y : ℕ) (ms cs : List ℕ) where
         unfolding descent
         round-passes next e en =
             let on =
-            left-next (descent c) (inputAgrees c input) (rounds c) (outputExponent c) y ms cs _ _ n at claim (loops.round-opened c legal (LeftAt at claim) layer round n b more)
+            left-next (descent c) (inputAgrees c input) (rounds c) (outputExponent c) y ms cs _ _ n at claim opened
             (ap (judge c (place layer round) (take n cs) claim) (sym same-message) ∙ e) in
             let claims : messageAt c (take (messageLength c (place layer round)) (drop at ms)) (getD cs n 0) ≡ next =
             ap (λ (m : List ℕ). messageAt c m (getD cs n 0)) (sym same-message) ∙ sym en in
@@ -92,5 +101,5 @@ module _ (c input : List ℕ) (y : ℕ) (ms cs : List ℕ) where
         unfolding descent
         round-refuses cause e =
             let s = numbered-suc cause in
-            s .1 ∙ left-refused (descent c) (inputAgrees c input) (rounds c) (outputExponent c) y ms cs _ _ n at claim (loops.round-opened c legal (LeftAt at claim) layer round n b more) (s .0)
+            s .1 ∙ left-refused (descent c) (inputAgrees c input) (rounds c) (outputExponent c) y ms cs _ _ n at claim opened (s .0)
             (ap (judge c (place layer round) (take n cs) claim) (sym same-message) ∙ sym e ∙ s .1)

@@ -34,6 +34,25 @@ abbrev claims : ℕ → halves-lts.Claims
 claims t = (first-reads.Asked, first-reads.Learnt, sub-reads.Asked, sub-reads.Learnt, along-reads.Asked, along-reads.Learnt, halves-below t, halves.Post)
 
 module _ (t : ℕ) where
+  -- where the difference of the first coordinates is known, where the lower half's coefficients are, and where the upper half's are
+  abbrev Differs : Type 0
+  Differs = halves-lts.After-sub (claims t) (halves-at t) halves.Post
+
+  abbrev Lower : Type 0
+  Lower = halves-lts.After-halves (claims t) (halves-at t) halves.Post
+
+  abbrev Upper : Type 0
+  Upper = halves-lts.After-halves2 (claims t) (halves-at t) halves.Post
+
+  abbrev start : Differs → halves-lts.Start (claims t) (halves-at t) halves.Post
+  start d = d .before .before .before .before .before .before .before .before
+
+  abbrev differs : Lower → Differs
+  differs l = l .before .before .before .before .before .before
+
+  abbrev lower : Upper → Lower
+  lower u = u .before .before .before .before .before .before .before
+
   first-requires : halves-lts.Need-first-requires (claims t) (halves-at t) halves.Post
   first-requires c κs = search needs
 
@@ -103,14 +122,14 @@ module _ (t : ℕ) where
   returns-2 c =
       let joined = c .before .before .along in
       let upper = c .before .before .before .before .before .first3 in
-      let lower = c .before .before .before .before .before .before .before .first2 in
-      let start = c .before .before .before .before .before .before .before .before .before .before in
-      let entry = start .before .before .before .before .before .before .before .before in
+      let low = c .before .before .before .before .before .before .before .first2 in
+      let difference = c .before .before .before .before .before .before .before .before .before .before in
+      let entry = start difference in
       let args = entry .args in
       let room = entry .pre .1 .2 in
       let one = c .before .before .before .before .before .before .before .before .before .if2 .taken in
       from-values (numbers (args .f)) 0 (args .values .now) (args .u .now) (args .v .now) (entry .pre .1 .0) (omega arith) one
-      (args .row .now) _ _ (omega arith) (ap (λ (n : ℕ). n ∷ []) (upper .ensures)) (rw (lower .ensures, start .sub .ensures) at (joined .ensures))
+      (args .row .now) _ _ (omega arith) (ap (λ (n : ℕ). n ∷ []) (upper .ensures)) (rw (low .ensures, difference .sub .ensures) at (joined .ensures))
 
   slice-aggregate-halves : halves-lts.Need-slice-aggregate-halves (claims t) (halves-at t) halves.Post
   slice-aggregate-halves c = sym (length-take-le _ _ (omega arith))
@@ -177,19 +196,21 @@ module _ (t : ℕ) where
 
   slice-aggregate-along-2 : halves-lts.Need-slice-aggregate-along-2 (claims t) (halves-at t) halves.Post
   slice-aggregate-along-2 c =
-      let entry = c .before .before .before .before .before .before .before .before .before .before .before .before .before .before .before .before .before .before .before .before .before .before .before .before in
+      let u = c .before .before .before in
+      let entry = start (differs (lower u)) in
       let few = entry .pre .1 .1 in
-      let size = c .before .before .before .halves2 .kept .1 .1 .1 .1 .0 in
+      let size = u .halves2 .kept .1 .1 .1 .1 .0 in
       sym (length-take-le _ _ (omega arith))
 
   along-requires-2 : halves-lts.Need-along-requires-2 (claims t) (halves-at t) halves.Post
   along-requires-2 c κs =
-      let entry = c .before .before .before .before .before .before .before .before .before .before .before .before .before .before .before .before .before .before .before .before .before .before .before .before in
+      let u = c .before .before .before in
+      let entry = start (differs (lower u)) in
       let few = entry .pre .1 .1 in
       let room = entry .pre .1 .2 in
-      let size = c .before .before .before .halves2 .kept .1 .1 .1 .1 .0 in
-      let kept = c .before .before .before .before .before .before .before .before .before .before .halves .kept .1 .1 .1 .1 .0 in
-      rw (length-take-le (length (entry .args .u .now)) (c .before .before .before .halves2 .last .1 .1 .1 .1 .0) (omega arith)) (omega arith)
+      let size = u .halves2 .kept .1 .1 .1 .1 .0 in
+      let kept = lower u .halves .kept .1 .1 .1 .1 .0 in
+      rw (length-take-le (length (entry .args .u .now)) (u .halves2 .last .1 .1 .1 .1 .0) (omega arith)) (omega arith)
 
   same-length-3 : halves-lts.Need-same-length-3 (claims t) (halves-at t) halves.Post
   same-length-3 c = search needs
@@ -197,19 +218,20 @@ module _ (t : ℕ) where
   returns-3 : halves-lts.Need-returns-3 (claims t) (halves-at t) halves.Post
   returns-3 c =
       let joined = c .before .before .along2 in
-      let upper = c .before .before .before .before .before .before .halves2 in
-      let lower = c .before .before .before .before .before .before .before .before .before .before .before .before .before .halves in
-      let start = c .before .before .before .before .before .before .before .before .before .before .before .before .before .before .before .before .before .before .before in
-      let entry = start .before .before .before .before .before .before .before .before in
+      let u = c .before .before .before .before .before .before in
+      let upper = u .halves2 in
+      let low = lower u .halves in
+      let difference = differs (lower u) in
+      let entry = start difference in
       let args = entry .args in
       let same = entry .pre .1 .0 in
-      let other = start .before .before .before .if1 .left in
+      let other = difference .before .before .before .if1 .left in
       let some : 0 < length (args .u .now) = omega arith in
       from-halves (numbers (args .f)) 0 (args .values .now) (args .u .now) (args .v .now) same some
-      (args .row .now) (lower .last .1 .1 .1 .1 .0) _ _ (lower .ensures)
+      (args .row .now) (low .last .1 .1 .1 .1 .0) _ _ (low .ensures)
       (take-front _ _ (upper .last .1 .1 .1 .1 .0) (length (args .u .now)) (upper .ensures)
       (length-half (numbers (args .f)) 0 (args .values .now) (args .u .now) (args .v .now) same some _))
-      (rw (start .sub .ensures) at (joined .ensures))
+      (rw (difference .sub .ensures) at (joined .ensures))
 
 pub +halves-spec : {M : Type 1} → statement M
 +halves-spec =

@@ -3,17 +3,14 @@
 use Prim.Native.Nat.{ℕ, _+_, _≤_}
 use mathlib.Core.Path.{_≡_, sym, ap, _∙_, subst}
 use native.Mathlib.Omega.{arith}
-use lib.ListN.{length, take}
+use lib.ListN.{length}
 use lib.Seq.{length-take-le}
-use Rattle.algebra.specs.Numbers.{words as words-of}
-use Rattle.circuit.specs.Limits.{maxExponent}
 use Rattle.circuit.proofs.Layers.{prime-modulus}
-use Rattle.sumcheck.specs.Line.{lineHalving}
-use Rattle.line.specs.Row.{padded}
+use Rattle.line.specs.Row.{maxCoefficients}
 use Rattle.protocol.specs.Rounds.{place}
 use Rattle.protocol.specs.Judge.{messageLength}
 use Rattle.standing.proofs.Lengths.{length-of-line}
-use Rattle.messages.proofs.Rows.{written, line-words}
+use Rattle.messages.proofs.Rows.{lined, written, line-words}
 use borrow.Author.Needs.{needs}
 use Rattle.messages.proofs.write_line.Statement.{statement}
 use Rattle.messages.proofs.write_line.Tie as tie
@@ -40,8 +37,9 @@ slice-aggregate-put : tie.Need-slice-aggregate-put
 slice-aggregate-put c =
     let words = c .before .before .line-message in
     let ok = words .ok in
-    let size : length (words .result) ≡ maxExponent + 1 = search needs in
-    sym (length-take-le _ _ (omega (arith, size, c .before .before .before .before .before .before .before .at-round .ensures .0 .own)))
+    let size : length (words .result) ≡ maxCoefficients = search needs in
+    let at = c .before .before .before .before .before .before .before .at-round in
+    sym (length-take-le _ _ (omega (arith, size, at .ensures .within .own)))
 
 put-requires : tie.Need-put-requires
 put-requires c κs = search needs
@@ -50,14 +48,14 @@ same-length : tie.Need-same-length
 same-length c = search needs
 
 returns : tie.Need-returns
-returns c h il =
+returns c il h =
     let own = c .before .before .before .before .before .before .before .before .before .before in
     let start = own .before .before .before .before .before in
     let l = start .args .circuit .now in
     let past = start .args .past .now in
     let vs = start .args .values .now in
     let st = own .at-round .result in
-    let t = own .at-round .ensures .1 (h .there) in
+    let t = own .at-round .ensures .stands (h .there) in
     let r = place (start .args .layer) (start .args .round) in
     let n : st .own + 1 ≡ messageLength l r = ap (λ (k : ℕ). k + 1) (t .own) ∙ length-of-line l r il in
     let of = c .before .before .before .before .before .before in
@@ -65,8 +63,9 @@ returns c h il =
     let words = c .before .before .before .before .before .line-message in
     let said =
     line-words l (start .args .layer) (start .args .round) past vs (start .args .buffer .now) h st t il (words .result) (st .own + 1) n
-    (words .ensures ∙ ap (λ (p : ℕ). padded (lineHalving (words-of p) vs (take (st .own) (st .u)) (take (st .own) (st .v)))) f) in
-    written (words .result) (start .args .buffer .now) _ _ (st .own + 1) (subst (λ (i : ℕ). i ≤ length (start .args .buffer .now)) (sym n) (h .room)) said (c .before .before .put .ensures)
+    (words .ensures ∙ ap (λ (p : ℕ). lined p vs st) f) in
+    let room = subst (λ (i : ℕ). i ≤ length (start .args .buffer .now)) (sym n) (h .room) in
+    written (words .result) (start .args .buffer .now) _ _ (st .own + 1) room said (c .before .before .put .ensures)
 
 pub write-line-spec : {M : Type 1} → statement M
 write-line-spec =

@@ -91,7 +91,8 @@ same-length c = search needs
 returns-2 : tie.Need-returns-2
 returns-2 c h =
     let w = c .before .before .before .before .before .before .before .before in
-    from-whole w h _ (c .before .before .write-line .ensures (ready w h) (sym (c .before .before .before .before .before .before .is-line .ensures) ∙ search needs))
+    let is-line = c .before .before .before .before .before .before .is-line .ensures in
+    from-whole w h _ (c .before .before .write-line .ensures (sym is-line ∙ search needs) (ready w h))
 
 mul-write-sum : tie.Need-mul-write-sum
 mul-write-sum c = search needs
@@ -114,7 +115,8 @@ same-length-2 c = search needs
 returns-3 : tie.Need-returns-3
 returns-3 c h =
     let w = c .before .before .before .before .before .before .before .before in
-    from-whole w h _ (c .before .before .write-sum .ensures (ready w h) (sym (c .before .before .before .before .before .before .is-line .ensures) ∙ search needs))
+    let is-line = c .before .before .before .before .before .before .is-line .ensures in
+    from-whole w h _ (c .before .before .write-sum .ensures (sym is-line ∙ search needs) (ready w h))
 
 pub write-message-spec : {M : Type 1} → statement M
 write-message-spec =

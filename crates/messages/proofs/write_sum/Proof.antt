@@ -1,17 +1,10 @@
--- `write_sum` meets its contract: what stands at the round gives the gates above, the standing point and the coordinates fixed so far, from which one pass over the gates makes the honest message.
+-- `write_sum` meets its contract: what stands at the round gives the gates above, the standing point and the coordinates fixed so far, from
+-- which one pass over the gates makes the honest message.
 -- Assumes nothing.
-use Prim.Native.Nat.{ℕ, min}
+use Prim.Native.Nat.{ℕ}
 use mathlib.Core.Path.{ap, _∙_}
-use mathlib.Core.List.{[], _∷_}
-use lib.ListN.{take}
-use Rattle.algebra.specs.Numbers.{words}
-use Rattle.circuit.specs.Limits.{maxExponent}
 use Rattle.circuit.proofs.Layers.{prime-modulus}
-use Rattle.sumcheck.specs.Gatewise.{sumByGates}
-use Rattle.summand.specs.Gates.{gatesIn}
-use Rattle.tables.specs.Limits.{tableWidth}
-use Rattle.sums.specs.Round.{fixedFirst, fixedSecond}
-use Rattle.messages.proofs.Rows.{sum-words, sum-written}
+use Rattle.messages.proofs.Rows.{summed, sum-words, sum-written}
 use borrow.Author.Needs.{needs}
 use Rattle.messages.proofs.write_sum.Statement.{statement}
 use Rattle.messages.proofs.write_sum.Tie as tie
@@ -41,7 +34,7 @@ same-length : tie.Need-same-length
 same-length c = search needs
 
 returns : tie.Need-returns
-returns c h nl =
+returns c nl h =
     let sum = c .before .before .before .before .before in
     let gates = sum .before in
     let own = gates .before .before .before .before .before .before in
@@ -49,14 +42,11 @@ returns c h nl =
     let vs = a .values .now in
     let above = gates .gates-above .result .now in
     let st = own .at-round .result in
-    let t = own .at-round .ensures .1 (h .there) in
+    let t = own .at-round .ensures .stands (h .there) in
     let f = prime-modulus (a .circuit .now) (h .there .legal) _ _ (gates .before .before .prime .ensures) (gates .before .of .ensures) in
-    let rows = st .u ∷ st .v ∷ [] in
-    let k = min (st .own) maxExponent in
     let said =
     sum-words _ (a .layer) (a .round) (a .past .now) vs (a .buffer .now) h st t nl above (gates .gates-above .ensures) _
-    (sum .sum-message .ensures
-    ∙ ap (λ (p : ℕ). sumByGates (words p) k (gatesIn above) (take (st .above) (st .point)) (take tableWidth vs) (fixedFirst k (a .round) rows) (fixedSecond k (a .round) rows)) f) in
+    (sum .sum-message .ensures ∙ ap (λ (p : ℕ). summed p above vs (a .round) st) f) in
     sum-written _ (a .layer) (a .round) (a .past .now) vs (a .buffer .now) h (sum .sum-message .result) _ said (c .before .before .put .ensures)
 
 pub write-sum-spec : {M : Type 1} → statement M

@@ -1,14 +1,59 @@
 -- `prove` meets its contract: refusal by refusal, then all messages are written.
 -- Assumes nothing.
 use Prim.Native.Nat.{ℕ, _≤_, _<_}
-use mathlib.Core.Path.{sym, ap, _∙_, subst}
+use mathlib.Core.Path.{_≡_, sym, ap, _∙_, subst}
+use mathlib.Core.List.{List}
 use lib.ListN.{length}
 use Rattle.refusal.specs.Number.{causeOf}
+use Rattle.circuit.specs.Circuit.{messageWords}
+use Rattle.circuit.specs.Legal.{listsCause}
+use Rattle.circuit.specs.Sized.{LegalCircuit}
 use Rattle.circuit.proofs.Loading.{legal-lists}
+use Rattle.protocol.specs.Check.{needCoins}
 use Rattle.prover.proofs.Proving.{whole-lists, whole-coins, whole-short, provable, whole-written}
 use borrow.Author.Needs.{needs}
 use Rattle.prover.proofs.prove.Statement.{statement}
 use Rattle.prover.proofs.prove.Tie as tie
+
+-- behind 1 to 9: the lists are legal
+abbrev Listed : Type 0
+Listed = tie.After-enum-told
+
+abbrev start : Listed → tie.Start
+start t = t .before .before .before .before .before .before .before
+
+module _ (t : Listed) where
+  abbrev l : List ℕ
+  l = start t .args .circuit .now
+
+  abbrev cs : List ℕ
+  cs = start t .args .coins .now
+
+  abbrev m : List ℕ
+  m = start t .args .messages .now
+
+  none : listsCause l (start t .args .input .now) ≡ 0
+  none = sym (t .before .before .check-lists .ensures) ∙ ap causeOf (t .enum-told .given .1)
+
+  legal : LegalCircuit l
+  legal = legal-lists l (start t .args .input .now) none .circuit
+
+-- behind 11 and 12: the coins are
+abbrev Taken : Type 0
+Taken = tie.After-enum-told2
+
+abbrev listed : Taken → Listed
+listed k = k .before .before .before
+
+free : (k : Taken) → needCoins (l (listed k)) (cs (listed k)) 0 ≡ 0
+free k = sym (k .before .before .check-coins .ensures (legal (listed k))) ∙ ap causeOf (k .enum-told2 .given .1)
+
+-- behind 10: the buffer has room
+abbrev taken : tie.Else1 → Taken
+taken e = e .before .before
+
+room : (e : tie.Else1) → messageWords (l (listed (taken e))) ≤ length (m (listed (taken e)))
+room e = subst (λ (n : ℕ). n ≤ length (m (listed (taken e)))) (e .before .message-words .ensures (legal (listed (taken e)))) (e .if1 .left)
 
 check-lists-requires : tie.Need-check-lists-requires
 check-lists-requires c κs = search needs
@@ -18,14 +63,8 @@ enum-known-lists c = search needs
 
 returns : tie.Need-returns
 returns c =
-    let at = c .before .before .before in
-    let a = at .before .before .before .before .before .args in
-    let l = a .circuit .now in
-    let v = a .input .now in
-    let cs = a .coins .now in
-    let m = a .messages .now in
     let told = c .before .lists .given in
-    whole-lists l v cs m (told .0 .0) (sym (ap causeOf (told .1)) ∙ at .check-lists .ensures)
+    whole-lists _ _ _ _ (told .0 .0) (sym (ap causeOf (told .1)) ∙ c .before .before .before .check-lists .ensures)
 
 enum-told : tie.Need-enum-told
 enum-told c = search needs
@@ -38,16 +77,9 @@ enum-known-taken c = search needs
 
 returns-2 : tie.Need-returns-2
 returns-2 c =
-    let at = c .before .before .before .before .before .before in
-    let a = at .before .before .before .before .before .args in
-    let l = a .circuit .now in
-    let v = a .input .now in
-    let cs = a .coins .now in
-    let m = a .messages .now in
-    let lists = sym (at .check-lists .ensures) ∙ ap causeOf (c .before .before .before .before .enum-told .given .1) in
-    let legal = legal-lists l v lists .circuit in
+    let t = c .before .before .before .before in
     let told = c .before .taken .given in
-    whole-coins l v cs m lists (told .0 .0) (sym (ap causeOf (told .1)) ∙ c .before .before .before .check-coins .ensures legal)
+    whole-coins _ _ _ _ (none t) (told .0 .0) (sym (ap causeOf (told .1)) ∙ c .before .before .before .check-coins .ensures (legal t))
 
 enum-told-2 : tie.Need-enum-told-2
 enum-told-2 c = search needs
@@ -57,46 +89,20 @@ message-words-requires c κs = search needs
 
 returns-3 : tie.Need-returns-3
 returns-3 c =
-    let at = c .before .before .before .before .before .before .before in
-    let a = at .before .before .before .before .before .args in
-    let l = a .circuit .now in
-    let v = a .input .now in
-    let cs = a .coins .now in
-    let m = a .messages .now in
-    let lists = sym (at .check-lists .ensures) ∙ ap causeOf (c .before .before .before .before .before .enum-told .given .1) in
-    let legal = legal-lists l v lists .circuit in
-    let coins = sym (c .before .before .before .before .check-coins .ensures legal) ∙ ap causeOf (c .before .before .enum-told2 .given .1) in
-    whole-short l v cs m lists coins (subst (λ (n : ℕ). length m < n) (c .before .message-words .ensures legal) (c .if1 .taken))
+    let k = c .before .before in
+    let t = listed k in
+    whole-short _ _ _ _ (none t) (free k) (subst (λ (n : ℕ). length (m t) < n) (c .before .message-words .ensures (legal t)) (c .if1 .taken))
 
 write-all-requires : tie.Need-write-all-requires
-write-all-requires c κs =
-    let at = c .before .before .before .before .before .before .before .before in
-    let a = at .before .before .before .before .before .args in
-    let l = a .circuit .now in
-    let v = a .input .now in
-    let cs = a .coins .now in
-    let m = a .messages .now in
-    let lists = sym (at .check-lists .ensures) ∙ ap causeOf (c .before .before .before .before .before .before .enum-told .given .1) in
-    let legal = legal-lists l v lists .circuit in
-    let coins = sym (c .before .before .before .before .before .check-coins .ensures legal) ∙ ap causeOf (c .before .before .before .enum-told2 .given .1) in
-    provable l v cs m lists coins (subst (λ (n : ℕ). n ≤ length m) (c .before .before .message-words .ensures legal) (c .before .if1 .left))
+write-all-requires c κs = let k = taken (c .before) in provable _ _ _ _ (none (listed k)) (free k) (room (c .before))
 
 same-length : tie.Need-same-length
 same-length c = search needs
 
 returns-4 : tie.Need-returns-4
 returns-4 c =
-    let at = c .before .before .before .before .before .before .before .before .before .before .before in
-    let a = at .before .before .before .before .before .args in
-    let l = a .circuit .now in
-    let v = a .input .now in
-    let cs = a .coins .now in
-    let m = a .messages .now in
-    let lists = sym (at .check-lists .ensures) ∙ ap causeOf (c .before .before .before .before .before .before .before .before .before .enum-told .given .1) in
-    let legal = legal-lists l v lists .circuit in
-    let coins = sym (c .before .before .before .before .before .before .before .before .check-coins .ensures legal) ∙ ap causeOf (c .before .before .before .before .before .before .enum-told2 .given .1) in
-    let room = subst (λ (n : ℕ). n ≤ length m) (c .before .before .before .before .before .message-words .ensures legal) (c .before .before .before .before .if1 .left) in
-    whole-written l v cs m lists coins room _ _ (c .before .before .write-all .ensures)
+    let e = c .before .before .before .before in
+    whole-written _ _ _ _ (none (listed (taken e))) (free (taken e)) (room e) _ _ (c .before .before .write-all .ensures)
 
 pub prove-spec : {M : Type 1} → statement M
 prove-spec =

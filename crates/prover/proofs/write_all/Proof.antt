@@ -1,4 +1,5 @@
--- `write_all` meets its contract: the messages of the rounds before stand over the buffer's front, and the loops end where none is left. The inner loop starts from the buffer as the outer one left it.
+-- `write_all` meets its contract: the messages of the rounds before stand over the buffer's front, and the loops end where none is left. The
+-- inner loop starts from the buffer as the outer one left it.
 -- Assumes nothing.
 use Prim.Native.Nat.{ℕ, _+_, _-_, _*_, _≤_, _<_}
 use mathlib.Core.Path.{_≡_, sym, ap, _∙_, subst}
@@ -9,7 +10,7 @@ use lib.Seq.{length-take-le}
 use borrow.Author.Needs.{needs}
 use Rattle.circuit.specs.Circuit.{depth, exponentAt}
 use Rattle.lists.specs.Buffer.{over}
-use Rattle.protocol.specs.Rounds.{place, AtRound}
+use Rattle.protocol.specs.Rounds.{Place, place, AtRound}
 use Rattle.protocol.specs.Prove.{messageFrom}
 use Rattle.circuit.specs.Sized.{LegalCircuit}
 use Rattle.evaluation.specs.Layer.{AllValues}
@@ -20,13 +21,15 @@ use Rattle.messages.specs.Writing.{valuesIn, Writable}
 use Rattle.messages.proofs.Rows.{message-size}
 use Rattle.prover.specs.Writing.{Provable}
 use Rattle.prover.proofs.Values.{layer-values, writable, output-of}
-use Rattle.prover.proofs.Transcripts.{BeforeLayer, BeforeRound, first-layer, all-start, layer-ends, all-end, lent, lent-size, lent-layer, given-back, coins-there, round-place, same-size, at-inside, lent-room, next-round}
+use Rattle.prover.proofs.Transcripts.{BeforeLayer, BeforeRound, first-layer, all-start, layer-ends, all-end}
+use Rattle.prover.proofs.Transcripts.{lent, lent-size, lent-layer, given-back, coins-there, round-place, same-size, at-inside, lent-room, next-round}
 use Rattle.prover.proofs.write_all.Statement.{statement}
 use Rattle.prover.proofs.write_all.Tie as tie
 
 abbrev Inv-loop2 : tie.InvT-loop2
 Inv-loop2 circuit input coins messages₀ values n₀ at₀ layer round₀ layer-end round-end messages n at round =
-    (layer-end ≡ depth circuit + 1) × (round-end ≡ 2 * exponentAt circuit layer + 1) × (at₀ ≤ at) × BeforeRound circuit input coins messages₀ layer round n at messages
+    (layer-end ≡ depth circuit + 1) × (round-end ≡ 2 * exponentAt circuit layer + 1) × (at₀ ≤ at)
+    × BeforeRound circuit input coins messages₀ layer round n at messages
 
 abbrev μ-loop2 : tie.MeasureT-loop2
 μ-loop2 circuit input coins messages₀ values n₀ at₀ layer round₀ layer-end round-end messages n at round =
@@ -70,31 +73,40 @@ Turn = tie.In-loop2 Inv-loop2 μ-loop2 Inv-loop μ-loop
 abbrev layer : Turn → Layer
 layer t = t .before .before .before .before
 
-more : (t : Turn) → t .before .loop2 .round < 2 * exponentAt (start (layer t) .args .circuit .now) (layer t .loop .layer) + 1
-more t = subst (λ (i : ℕ). t .before .loop2 .round < i) (t .before .loop2 .inv .1) (t .loop2-test .taken)
+module _ (t : Turn) where
+  abbrev l : List ℕ
+  l = start (layer t) .args .circuit .now
 
-coin : (t : Turn) → t .before .loop2 .n < length (start (layer t) .args .coins .now)
-coin t = coins-there _ _ _ _ (can (layer t)) _ _ _ _ _ (t .before .loop2 .inv .3) (more t)
+  -- the round, the coins before it, and its layer's values
+  abbrev here : Place
+  here = place (layer t .loop .layer) (t .before .loop2 .round)
 
-spot : (t : Turn) → AtRound (start (layer t) .args .circuit .now) (place (layer t .loop .layer) (t .before .loop2 .round)) (length (take (t .before .loop2 .n) (start (layer t) .args .coins .now)))
-spot t = round-place _ _ _ _ (can (layer t)) _ _ _ _ _ (t .before .loop2 .inv .3) (more t)
+  abbrev past : List ℕ
+  past = take (t .before .loop2 .n) (start (layer t) .args .coins .now)
 
-inside : (t : Turn) → t .before .loop2 .at + messageLength (start (layer t) .args .circuit .now) (place (layer t .loop .layer) (t .before .loop2 .round)) ≤ length (t .before .loop2 .messages)
-inside t = at-inside _ _ _ _ (can (layer t)) _ _ _ _ _ (t .before .loop2 .inv .3) (more t)
+  abbrev own : List ℕ
+  own = valuesIn l (here .layer) (values (layer t))
 
--- the part that is lent on
-abbrev part : Turn → List ℕ
-part t = take (length (t .before .loop2 .messages) - t .before .loop2 .at) (drop (t .before .loop2 .at) (t .before .loop2 .messages))
+  more : here .round < 2 * exponentAt l (here .layer) + 1
+  more = subst (λ (i : ℕ). here .round < i) (t .before .loop2 .inv .1) (t .loop2-test .taken)
 
--- the layer's values, and the coins before the round
-abbrev own : Turn → List ℕ
-own t = valuesIn (start (layer t) .args .circuit .now) (layer t .loop .layer) (values (layer t))
+  coin : t .before .loop2 .n < length (start (layer t) .args .coins .now)
+  coin = coins-there _ _ _ _ (can (layer t)) _ _ _ _ _ (t .before .loop2 .inv .3) more
 
-abbrev past : Turn → List ℕ
-past t = take (t .before .loop2 .n) (start (layer t) .args .coins .now)
+  spot : AtRound l here (length past)
+  spot = round-place _ _ _ _ (can (layer t)) _ _ _ _ _ (t .before .loop2 .inv .3) more
 
-ready : (t : Turn) → Writable (start (layer t) .args .circuit .now) (layer t .loop .layer) (t .before .loop2 .round) (past t) (own t) (part t)
-ready t = writable _ _ (start (layer t) .pre .given .lists) _ (held (layer t)) _ _ _ (part t) (spot t) (lent-room _ _ _ _ (can (layer t)) _ _ _ _ _ (t .before .loop2 .inv .3) (more t))
+  inside : t .before .loop2 .at + messageLength l here ≤ length (t .before .loop2 .messages)
+  inside = at-inside _ _ _ _ (can (layer t)) _ _ _ _ _ (t .before .loop2 .inv .3) more
+
+  -- the part that is lent on
+  abbrev part : List ℕ
+  part = take (length (t .before .loop2 .messages) - t .before .loop2 .at) (drop (t .before .loop2 .at) (t .before .loop2 .messages))
+
+  ready : Writable l (here .layer) (here .round) past own part
+  ready =
+      writable _ _ (start (layer t) .pre .given .lists) _ (held (layer t)) _ _ _ part spot
+      (lent-room _ _ _ _ (can (layer t)) _ _ _ _ _ (t .before .loop2 .inv .3) more)
 
 slice-aggregate-fill-values : tie.Need-slice-aggregate-fill-values Inv-loop2 μ-loop2 Inv-loop μ-loop
 slice-aggregate-fill-values c = search needs
@@ -170,7 +182,8 @@ add-at c =
     let one = same-size _ _ _ _ (can (layer t)) _ _ _ _ _ (t .before .loop2 .inv .3) (more t) in
     let two = as-long (layer t) in
     let known = layer t .before .before .before .before .before in
-    let fits : t .before .loop2 .at + c .message-length .result ≤ length (start (layer t) .args .messages .now) = omega (arith, room, one, two, c .message-length .ensures) in
+    let all : List ℕ = start (layer t) .args .messages .now in
+    let fits : t .before .loop2 .at + c .message-length .result ≤ length all = omega (arith, room, one, two, c .message-length .ensures) in
     search needs
 
 add-n : tie.Need-add-n Inv-loop2 μ-loop2 Inv-loop μ-loop
@@ -188,7 +201,7 @@ loop2-again c =
     let at = t .before in
     let o = layer t in
     let same = layer-values _ _ (start o .pre .given .lists) _ (held o) (o .loop .layer) (spot t .last) in
-    let said : List ℕ → List ℕ = λ (vs : List ℕ). messageFrom (start o .args .circuit .now) vs (place (o .loop .layer) (at .loop2 .round)) (take (at .loop2 .n) (start o .args .coins .now)) in (
+    let said : List ℕ → List ℕ = λ (vs : List ℕ). messageFrom (l t) vs (here t) (past t) in (
       at .loop2 .inv .0,
       at .loop2 .inv .1,
       omega (arith, at .loop2 .inv .2),
@@ -214,7 +227,8 @@ loop-again c =
     let at = c .before in
     let o = c .before .before .before .before in (
       at .loop2 .inv .0,
-      layer-ends _ _ _ _ (start o .pre) _ _ _ _ _ (given-back _ _ _ _ (start o .pre) _ _ _ _ (o .loop .inv .1) _ _ _ _ (at .loop2 .inv .2) (at .loop2 .inv .3))
+      layer-ends _ _ _ _ (start o .pre) _ _ _ _ _
+          (given-back _ _ _ _ (start o .pre) _ _ _ _ (o .loop .inv .1) _ _ _ _ (at .loop2 .inv .2) (at .loop2 .inv .3))
           (subst (λ (i : ℕ). i ≤ at .loop2 .round) (at .loop2 .inv .1) (c .loop2-test .left)),
     )
 

@@ -70,7 +70,8 @@ returns-4 : tie.Need-returns-4
 returns-4 c =
     let e = c .before .before .before in
     let t = e .before .before in
-    open-opens _ _ (start t .args .output) (start t .args .coins .now) (none t) (below e) (sym (ap causeOf (c .enum-told2 .given .1)) ∙ c .before .before .check-coins .ensures (legal t))
+    open-opens _ _ (start t .args .output) (start t .args .coins .now) (none t) (below e)
+    (sym (ap causeOf (c .enum-told2 .given .1)) ∙ c .before .before .check-coins .ensures (legal t))
 
 pub open-spec : {M : Type 1} → statement M
 open-spec =

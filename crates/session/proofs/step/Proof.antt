@@ -1,12 +1,54 @@
 -- `step` meets its contract: refusal by refusal.
 -- Assumes nothing.
-use mathlib.Core.Path.{sym, ap, _∙_}
+use Prim.Native.Nat.{ℕ}
+use mathlib.Core.Path.{_≡_, sym, ap, _∙_}
+use mathlib.Core.Bool.{true}
+use mathlib.Core.List.{List}
 use Rattle.refusal.specs.Number.{causeOf}
+use Rattle.circuit.specs.Legal.{listsCause}
+use Rattle.circuit.specs.Sized.{LegalCircuit}
 use Rattle.circuit.proofs.Loading.{legal-lists, not-true, not-false}
+use Rattle.protocol.specs.Check.{needCoins}
+use Rattle.protocol.specs.Session.{recordFits}
+use Rattle.session.specs.Answers.{recordOf}
 use Rattle.session.proofs.Coming.{left-lists, left-coins, left-record, fitting, steps-open}
 use borrow.Author.Needs.{needs}
 use Rattle.session.proofs.step.Statement.{statement}
 use Rattle.session.proofs.step.Tie as tie
+
+-- behind 1 to 9: the lists are legal
+abbrev Listed : Type 0
+Listed = tie.After-enum-told
+
+abbrev start : Listed → tie.Start
+start t = t .before .before .before .before .before .before .before
+
+module _ (t : Listed) where
+  abbrev l : List ℕ
+  l = start t .args .circuit .now
+
+  abbrev cs : List ℕ
+  cs = start t .args .coins .now
+
+  none : listsCause l (start t .args .input .now) ≡ 0
+  none = sym (t .before .before .check-lists .ensures) ∙ ap causeOf (t .enum-told .given .1)
+
+  legal : LegalCircuit l
+  legal = legal-lists l (start t .args .input .now) none .circuit
+
+-- behind 11 and 12: the coins are
+abbrev Taken : Type 0
+Taken = tie.After-enum-told2
+
+abbrev listed : Taken → Listed
+listed k = k .before .before .before
+
+free : (k : Taken) → 0 ≡ needCoins (l (listed k)) (cs (listed k)) 0
+free k = sym (ap causeOf (k .enum-told2 .given .1)) ∙ k .before .before .check-coins .ensures (legal (listed k))
+
+-- behind 19: the record fits
+suits : (e : tie.Else1) → recordFits (l (listed (e .before .before))) (recordOf (start (listed (e .before .before)) .args .session)) ≡ true
+suits e = sym (e .before .fits2 .ensures) ∙ not-false (e .if1 .left)
 
 check-lists-requires : tie.Need-check-lists-requires
 check-lists-requires c κs = search needs
@@ -19,15 +61,9 @@ left-requires c κs = search needs
 
 returns : tie.Need-returns
 returns c =
-    let start = c .before .before .before .before .before .before .before .before .before in
-    let a = start .args in
-    let l = a .circuit .now in
-    let v = a .input .now in
-    let cs = a .coins .now in
-    let s = a .session in
-    let m = a .message .now in
     let told = c .before .before .lists .given in
-    left-lists l v cs s m (told .0 .0) _ (c .left .ensures .0) (c .left .ensures .1) (sym (ap causeOf (told .1)) ∙ c .before .before .before .before .check-lists .ensures)
+    left-lists _ _ _ _ _ (told .0 .0) _ (c .left .ensures .0) (c .left .ensures .1)
+    (sym (ap causeOf (told .1)) ∙ c .before .before .before .before .check-lists .ensures)
 
 enum-told : tie.Need-enum-told
 enum-told c = search needs
@@ -43,73 +79,35 @@ left-requires-2 c κs = search needs
 
 returns-2 : tie.Need-returns-2
 returns-2 c =
-    let start = c .before .before .before .before .before .before .before .before .before .before .before .before in
-    let a = start .args in
-    let l = a .circuit .now in
-    let v = a .input .now in
-    let cs = a .coins .now in
-    let s = a .session in
-    let m = a .message .now in
-    let none = sym (c .before .before .before .before .before .before .before .check-lists .ensures) ∙ ap causeOf (c .before .before .before .before .before .enum-told .given .1) in
+    let t = c .before .before .before .before .before in
     let told = c .before .before .taken .given in
-    left-coins l v cs s m (told .0 .0) _ (c .left2 .ensures .0) (c .left2 .ensures .1) none (sym (ap causeOf (told .1)) ∙ c .before .before .before .before .check-coins .ensures (legal-lists l v none .circuit))
+    left-coins _ _ _ _ _ (told .0 .0) _ (c .left2 .ensures .0) (c .left2 .ensures .1) (none t)
+    (sym (ap causeOf (told .1)) ∙ c .before .before .before .before .check-coins .ensures (legal t))
 
 enum-told-2 : tie.Need-enum-told-2
 enum-told-2 c = search needs
 
 fits-requires : tie.Need-fits-requires
-fits-requires c κs =
-    let start = c .before .before .before .before .before .before .before .before .before .before in
-    let a = start .args in
-    let l = a .circuit .now in
-    let v = a .input .now in
-    let cs = a .coins .now in
-    let s = a .session in
-    let m = a .message .now in
-    let none = sym (c .before .before .before .before .before .check-lists .ensures) ∙ ap causeOf (c .before .before .before .enum-told .given .1) in
-    legal-lists l v none .circuit
+fits-requires c κs = legal (listed c)
 
 left-requires-3 : tie.Need-left-requires-3
 left-requires-3 c κs = search needs
 
 returns-3 : tie.Need-returns-3
 returns-3 c =
-    let start = c .before .before .before .before .before .before .before .before .before .before .before .before .before in
-    let a = start .args in
-    let l = a .circuit .now in
-    let v = a .input .now in
-    let cs = a .coins .now in
-    let s = a .session in
-    let m = a .message .now in
-    let none = sym (c .before .before .before .before .before .before .before .before .check-lists .ensures) ∙ ap causeOf (c .before .before .before .before .before .before .enum-told .given .1) in
-    let free = sym (ap causeOf (c .before .before .before .enum-told2 .given .1)) ∙ c .before .before .before .before .before .check-coins .ensures (legal-lists l v none .circuit) in
-    left-record l v cs s m none free _ (c .left3 .ensures .0) (c .left3 .ensures .1) (sym (c .before .before .fits2 .ensures) ∙ not-true (c .before .if1 .taken))
+    let k = c .before .before .before in
+    left-record _ _ _ _ _ (none (listed k)) (free k) _ (c .left3 .ensures .0) (c .left3 .ensures .1)
+    (sym (c .before .before .fits2 .ensures) ∙ not-true (c .before .if1 .taken))
 
 step-open-requires : tie.Need-step-open-requires
 step-open-requires c κs =
-    let start = c .before .before .before .before .before .before .before .before .before .before .before .before in
-    let a = start .args in
-    let l = a .circuit .now in
-    let v = a .input .now in
-    let cs = a .coins .now in
-    let s = a .session in
-    let m = a .message .now in
-    let none = sym (c .before .before .before .before .before .before .before .check-lists .ensures) ∙ ap causeOf (c .before .before .before .before .before .enum-told .given .1) in
-    let free = sym (ap causeOf (c .before .before .enum-told2 .given .1)) ∙ c .before .before .before .before .check-coins .ensures (legal-lists l v none .circuit) in
-    fitting l v cs s m none free (sym (c .before .fits2 .ensures) ∙ not-false (c .if1 .left))
+    let k = c .before .before in
+    fitting _ _ _ _ (start (listed k) .args .message .now) (none (listed k)) (free k) (suits c)
 
 returns-4 : tie.Need-returns-4
 returns-4 c =
-    let start = c .before .before .before .before .before .before .before .before .before .before .before .before .before in
-    let a = start .args in
-    let l = a .circuit .now in
-    let v = a .input .now in
-    let cs = a .coins .now in
-    let s = a .session in
-    let m = a .message .now in
-    let none = sym (c .before .before .before .before .before .before .before .before .check-lists .ensures) ∙ ap causeOf (c .before .before .before .before .before .before .enum-told .given .1) in
-    let free = sym (ap causeOf (c .before .before .before .enum-told2 .given .1)) ∙ c .before .before .before .before .before .check-coins .ensures (legal-lists l v none .circuit) in
-    steps-open l v cs s m none free (sym (c .before .before .fits2 .ensures) ∙ not-false (c .before .if1 .left)) _ (c .step-open .ensures)
+    let k = c .before .before .before in
+    steps-open _ _ _ _ _ (none (listed k)) (free k) (suits (c .before)) _ (c .step-open .ensures)
 
 pub step-spec : {M : Type 1} → statement M
 step-spec =

@@ -1,7 +1,9 @@
--- `walk` meets its contract: what is left before a layer, or before a round, is the whole walk; the loops end where nothing is left or a message is refused.
+-- `walk` meets its contract: what is left before a layer, or before a round, is the whole walk; the loops end where nothing is left or a
+-- message is refused.
 -- Assumes nothing.
 use Prim.Native.Nat.{ℕ, _+_, _-_, _*_, _≤_, _<_}
 use mathlib.Core.Path.{_≡_, sym, ap, _∙_, subst}
+use mathlib.Core.List.{List}
 use native.Mathlib.Omega.{arith}
 use lib.ListN.{length, take, drop, getD}
 use lib.Seq.{length-take-le}
@@ -12,7 +14,7 @@ use Rattle.refusal.specs.Number.{causeOf}
 use Rattle.circuit.specs.Circuit.{exponentAt}
 use Rattle.circuit.specs.Circuit.{depth as depthOf}
 use Rattle.circuit.specs.Sized.{LegalCircuit}
-use Rattle.protocol.specs.Rounds.{place, AtRound}
+use Rattle.protocol.specs.Rounds.{Place, place, AtRound}
 use Rattle.protocol.specs.Judge.{messageLength}
 use Rattle.circuit.proofs.Layers.{prime-modulus}
 use Rattle.circuit.proofs.Loading.{legal-lists}
@@ -48,24 +50,44 @@ Layer = tie.At-walk Inv-loop μ-loop Inv-walk μ-walk
 abbrev start : Layer → Start
 start o = o .before .before .before .before .before .before .before .before .before
 
--- a turn of the inner loop
+-- a turn of the inner loop, and where it has the message's length
 abbrev Turn : Type 0
 Turn = tie.In-loop Inv-loop μ-loop Inv-walk μ-walk
+
+abbrev Measured : Type 0
+Measured = tie.After-message-length Inv-loop μ-loop Inv-walk μ-walk
 
 abbrev layer : Turn → Layer
 layer t = t .before .before .before .before
 
-more : (t : Turn) → t .before .loop .round < 2 * exponentAt (start (layer t) .args .circuit .now) (layer t .walk .layer) + 1
-more t = subst (λ (i : ℕ). t .before .loop .round < i) (t .before .loop .inv .0) (t .loop-test .taken)
+module _ (t : Turn) where
+  abbrev l : List ℕ
+  l = start (layer t) .args .circuit .now
 
-coin : (t : Turn) → t .before .loop .n < length (start (layer t) .args .coins .now)
-coin t = coin-there _ _ _ _ _ (start (layer t) .pre) _ _ _ _ _ (t .before .loop .inv .1) (more t)
+  abbrev cs : List ℕ
+  cs = start (layer t) .args .coins .now
 
-spot : (t : Turn) → AtRound (start (layer t) .args .circuit .now) (place (layer t .walk .layer) (t .before .loop .round)) (length (take (t .before .loop .n) (start (layer t) .args .coins .now)))
-spot t = round-place _ _ _ _ _ (start (layer t) .pre) _ _ _ _ _ (t .before .loop .inv .1) (more t)
+  abbrev round : ℕ
+  round = t .before .loop .round
 
-words : (t : Turn) → t .before .loop .at + messageLength (start (layer t) .args .circuit .now) (place (layer t .walk .layer) (t .before .loop .round)) ≤ length (start (layer t) .args .messages .now)
-words t = words-there _ _ _ _ _ (start (layer t) .pre) _ _ _ _ _ (t .before .loop .inv .1) (more t)
+  abbrev here : Place
+  here = place (layer t .walk .layer) round
+
+  more : round < 2 * exponentAt l (layer t .walk .layer) + 1
+  more = subst (λ (i : ℕ). round < i) (t .before .loop .inv .0) (t .loop-test .taken)
+
+  coin : t .before .loop .n < length cs
+  coin = coin-there _ _ _ _ _ (start (layer t) .pre) _ _ _ _ _ (t .before .loop .inv .1) more
+
+  spot : AtRound l here (length (take (t .before .loop .n) cs))
+  spot = round-place _ _ _ _ _ (start (layer t) .pre) _ _ _ _ _ (t .before .loop .inv .1) more
+
+  words : t .before .loop .at + messageLength l here ≤ length (start (layer t) .args .messages .now)
+  words = words-there _ _ _ _ _ (start (layer t) .pre) _ _ _ _ _ (t .before .loop .inv .1) more
+
+-- where a message is measured: it is there
+room : (w : Measured) → w .before .before .loop .at + w .message-length .result ≤ length (start (layer (w .before)) .args .messages .now)
+room w = let all = words (w .before) in omega (arith, w .message-length .ensures)
 
 prime-requires : tie.Need-prime-requires Inv-loop μ-loop Inv-walk μ-walk
 prime-requires c κs = search needs
@@ -102,43 +124,39 @@ add-round-end c = search needs
 loop-holds : tie.Need-loop-holds Inv-loop μ-loop Inv-walk μ-walk
 loop-holds c =
     let o = c .before .before in
-    (ap (λ (k : ℕ). 2 * k + 1) (c .exponent .ensures), layer-starts _ _ _ _ _ (start o .pre) _ _ _ _ (o .walk .inv) (omega (arith, c .before .if1 .left, o .before .before .depth .ensures .0)))
+    let low : o .walk .layer ≤ depthOf (start o .args .circuit .now) = omega (arith, c .before .if1 .left, o .before .before .depth .ensures .0) in
+    (ap (λ (k : ℕ). 2 * k + 1) (c .exponent .ensures), layer-starts _ _ _ _ _ (start o .pre) _ _ _ _ (o .walk .inv) low)
 
 message-length-requires : tie.Need-message-length-requires Inv-loop μ-loop Inv-walk μ-walk
 message-length-requires c κs = search needs
 
 add-end : tie.Need-add-end Inv-loop μ-loop Inv-walk μ-walk
 add-end c =
-    let room = words (c .before) in
-    let wide = c .message-length .ensures in
+    let inside = room c in
     let known = layer (c .before) .before in
     search needs
 
 mul-message : tie.Need-mul-message Inv-loop μ-loop Inv-walk μ-walk
 mul-message c =
-    let room = words (c .before) in
-    let wide = c .message-length .ensures in
+    let inside = room c in
     let known = layer (c .before) .before in
     search needs
 
 sub-message : tie.Need-sub-message Inv-loop μ-loop Inv-walk μ-walk
 sub-message c =
-    let room = words (c .before) in
-    let wide = c .message-length .ensures in
+    let inside = room c in
     let known = layer (c .before) .before in
     search needs
 
 part-message-start : tie.Need-part-message-start Inv-loop μ-loop Inv-walk μ-walk
 part-message-start c =
-    let room = words (c .before) in
-    let wide = c .message-length .ensures in
+    let inside = room c in
     let known = layer (c .before) .before in
     search needs
 
 part-message-end : tie.Need-part-message-end Inv-loop μ-loop Inv-walk μ-walk
 part-message-end c =
-    let room = words (c .before) in
-    let wide = c .message-length .ensures in
+    let inside = room c in
     let known = layer (c .before) .before in
     search needs
 
@@ -200,12 +218,14 @@ walk-less c = let last = c .before .loop .inv .1 .last in search needs
 walk-again : tie.Need-walk-again Inv-loop μ-loop Inv-walk μ-walk
 walk-again c =
     let at = c .before in
-    layer-ends _ _ _ _ _ (start (c .before .before .before .before) .pre) _ _ _ _ _ (at .loop .inv .1) (subst (λ (i : ℕ). i ≤ at .loop .round) (at .loop .inv .0) (c .loop-test .left))
+    layer-ends _ _ _ _ _ (start (c .before .before .before .before) .pre) _ _ _ _ _ (at .loop .inv .1)
+    (subst (λ (i : ℕ). i ≤ at .loop .round) (at .loop .inv .0) (c .loop-test .left))
 
 returns : tie.Need-returns Inv-loop μ-loop Inv-walk μ-walk
 returns c =
     let o = c .before .before in
-    c .finish .ensures ∙ walk-ends _ _ _ _ _ (start o .pre) _ _ _ _ (o .walk .inv) (omega (arith, c .before .if1 .taken, o .before .before .depth .ensures .0))
+    c .finish .ensures
+    ∙ walk-ends _ _ _ _ _ (start o .pre) _ _ _ _ (o .walk .inv) (omega (arith, c .before .if1 .taken, o .before .before .depth .ensures .0))
 
 returns-2 : tie.Need-returns-2 Inv-loop μ-loop Inv-walk μ-walk
 returns-2 c =
