@@ -34,6 +34,10 @@ pub count-none : (c : List ℕ) → 0 ≡ gatesBefore c 0
 unfolding gateCount
 count-none c = refl
 
+-- all words of the gates from gate number i on
+abbrev pub gatesFrom : List ℕ → ℕ → List ℕ
+gatesFrom c i = drop (3 * i) (drop (gatesStart c) c)
+
 layer-in : (k : ℕ) (ks ws : List ℕ) (l : ℕ) → l < length ks
     → getD (layersOf k ks ws) l [] ≡ gatesOf (2 ^ getD (k ∷ ks) l 0) (drop (3 * gateCount k (take l ks)) ws)
 unfolding layersOf gateCount
@@ -84,19 +88,29 @@ module _ (c : List ℕ) (h : Sized c) where
 
   module _ (l from count : ℕ) (n : l < depth c) (ef : from ≡ gatesBefore c l) (ec : count ≡ 2 ^ exponentAt c l) where
     -- all their words are there
+    pub rest-room : 3 * from + 3 * count ≤ length (drop (gatesStart c) c)
+    rest-room = rw length-drop (omega (arith, gates-room l n, ef, ec))
+
+    pub rest-words : 3 * count ≤ length (gatesFrom c from)
+    rest-words = rw length-drop (omega (arith, rest-room))
+
+    -- and they are the layer's gates
+    pub rest-gates : gatesOf count (gatesFrom c from) ≡ gatesAt c l
+    unfolding gatesAt gateLayers
+    rest-gates =
+        ap₂ (λ (m k : ℕ). gatesOf m (gatesFrom c k)) ec ef
+        ∙ sym (layer-in (outputExponent c) (exponents c) (drop (gatesStart c) c) l (omega (arith, h .headed .whole)))
+
+    -- the same, of a part that has no others
     pub layer-words : length (gateWords c from count) ≡ 3 * count
     layer-words =
         length-take-le (3 * count) (drop (gatesStart c + 3 * from) c)
         (rw length-drop (omega (arith, gates-room l n, ef, ec)))
 
-    -- and they are the layer's gates
     pub layer-gates : gatesOf count (gateWords c from count) ≡ gatesAt c l
-    unfolding gatesAt gateLayers
     layer-gates =
         gates-part count (3 * count) (drop (gatesStart c + 3 * from) c) (le-refl (3 * count))
-        ∙ ap₂ (λ (m k : ℕ). gatesOf m (drop (gatesStart c + 3 * k) c)) ec ef
-        ∙ sym (layer-in (outputExponent c) (exponents c) (drop (gatesStart c) c) l (omega (arith, h .headed .whole))
-        ∙ ap (gatesOf (2 ^ exponentAt c l)) (drop-drop (3 * gatesBefore c l) (gatesStart c) c))
+        ∙ ap (gatesOf count) (sym (drop-drop (3 * from) (gatesStart c) c)) ∙ rest-gates
 
 -- LEGALITY, layer by layer: what the layers from i on say
 module _ (c : List ℕ) (h : Exponents c) where

@@ -32,55 +32,54 @@ pub below-ends : (p : ℕ) (ws : List ℕ) (i : ℕ) → length ws ≤ i → all
 unfolding allBelow
 below-ends p ws i h = ap (allBelow p) (drop-of-length-le ws h)
 
--- A GATE, by its words
+-- A GATE, by its words; a wire that is bad is refused, whatever the other is
+refuses : (b : Bool) → need (b && false) 7 0 ≡ 7
+refuses true = refl
+refuses false = refl
+
 module _ (next kind left right : ℕ) where
   pub gate-kind : maxKind < kind → gateCause next (gate kind left right) ≡ 6
   unfolding gateCause
   gate-kind h = simp (lt-leb kind maxKind h)
 
   module _ (known : kind ≤ maxKind) where
-    pub gate-left : next ≤ left → gateCause next (gate kind left right) ≡ 7
+    pub gate-right : next ≤ right → gateCause next (gate kind left right) ≡ 7
     unfolding gateCause wiresGood
-    gate-left h = simp (le-leb kind maxKind known, le-ltb left next h)
+    gate-right h = simp (le-leb kind maxKind known, le-ltb right next h) (refuses (ltb left next))
 
-    module _ (l : left < next) where
-      pub gate-right : next ≤ right → gateCause next (gate kind left right) ≡ 7
+    module _ (r : right < next) where
+      pub gate-order : right < left → gateCause next (gate kind left right) ≡ 7
       unfolding gateCause wiresGood
-      gate-right h = simp (le-leb kind maxKind known, lt-ltb left next l, le-ltb right next h)
+      gate-order h = simp (le-leb kind maxKind known, lt-ltb right next r, lt-leb left right h) (refuses (ltb left next))
 
-      module _ (r : right < next) where
-        pub gate-order : right < left → gateCause next (gate kind left right) ≡ 7
+      -- left is below too, where it is not above right
+      module _ (o : left ≤ right) where
+        below : ltb left next ≡ true
+        below = lt-ltb left next (omega arith)
+
+        pub gate-used : 0 < kind → gateCause next (gate kind left right) ≡ 0
         unfolding gateCause wiresGood
-        gate-order h = simp (le-leb kind maxKind known, lt-ltb left next l, lt-ltb right next r, lt-leb left right h)
+        gate-used h =
+            let used : eqb kind 0 ≡ false = ne-eqb kind 0 (λ e. omega arith) in
+            simp (le-leb kind maxKind known, below, lt-ltb right next r, le-leb left right o, used)
 
-        module _ (o : left ≤ right) where
-          pub gate-used : 0 < kind → gateCause next (gate kind left right) ≡ 0
-          unfolding gateCause wiresGood
-          gate-used h =
-              let used : eqb kind 0 ≡ false = ne-eqb kind 0 (λ e. omega arith) in
-              simp (le-leb kind maxKind known, lt-ltb left next l, lt-ltb right next r, le-leb left right o, used)
+        pub gate-wired-empty : kind ≤ 0 → 0 < right → gateCause next (gate kind left right) ≡ 7
+        unfolding gateCause wiresGood
+        gate-wired-empty h w =
+            let empty : eqb kind 0 ≡ true = eq-eqb kind 0 (omega arith) in
+            let wired : eqb right 0 ≡ false = ne-eqb right 0 (λ e. omega arith) in
+            simp (le-leb kind maxKind known, below, lt-ltb right next r, le-leb left right o, empty, wired) (refuses (eqb left 0))
 
-          pub gate-wired-empty : kind ≤ 0 → 0 < right → gateCause next (gate kind left right) ≡ 7
-          unfolding gateCause wiresGood
-          gate-wired-empty h w =
-              let empty : eqb kind 0 ≡ true = eq-eqb kind 0 (omega arith) in
-              let wired : eqb right 0 ≡ false = ne-eqb right 0 (λ e. omega arith) in
-              simp (le-leb kind maxKind known, lt-ltb left next l, lt-ltb right next r, le-leb left right o, empty, wired) (either (eqb left 0))
-            where
-              either : (b : Bool) → need (b && false) 7 0 ≡ 7
-              either true = refl
-              either false = refl
-
-          pub gate-empty : right ≤ 0 → gateCause next (gate kind left right) ≡ 0
-          unfolding gateCause wiresGood
-          gate-empty w =
-              let lz : eqb left 0 ≡ true = eq-eqb left 0 (omega arith) in
-              let rz : eqb right 0 ≡ true = eq-eqb right 0 (omega arith) in
-              simp (le-leb kind maxKind known, lt-ltb left next l, lt-ltb right next r, le-leb left right o, lz, rz) (either (not (eqb kind 0)))
-            where
-              either : (b : Bool) → need (b || true) 7 0 ≡ 0
-              either true = refl
-              either false = refl
+        pub gate-empty : right ≤ 0 → gateCause next (gate kind left right) ≡ 0
+        unfolding gateCause wiresGood
+        gate-empty w =
+            let lz : eqb left 0 ≡ true = eq-eqb left 0 (omega arith) in
+            let rz : eqb right 0 ≡ true = eq-eqb right 0 (omega arith) in
+            simp (le-leb kind maxKind known, below, lt-ltb right next r, le-leb left right o, lz, rz) (either (not (eqb kind 0)))
+          where
+            either : (b : Bool) → need (b || true) 7 0 ≡ 0
+            either true = refl
+            either false = refl
 
 -- GATES, from gate i on
 gates-cons : (n at : ℕ) (c : List ℕ)

@@ -6,6 +6,7 @@ use mathlib.Core.Bool.{Bool, true, false, cond, _&&_, false≢true}
 use mathlib.Core.List.{List, [], _∷_}
 use native.Mathlib.Nat.{pow-le-pow-right, le-refl, mul-le-mul-left}
 use native.Mathlib.Decide.{decLe}
+use native.Mathlib.Numerals.{add-one}
 use native.Mathlib.Omega.{arith}
 use lib.Dec.{ltb, lit<}
 use lib.ListN.{length, getD}
@@ -91,6 +92,10 @@ exponent-small c (suc l) h =
 
 pub exponent-width : (c : List ℕ) (layer : ℕ) → LayerOf c layer → widthOf (exponentAt c layer) ≡ 2 ^ exponentAt c layer
 exponent-width c layer h = width-of (exponentAt c layer) (exponent-small c layer h)
+
+-- the one after layer i's is the i-th that is written
+pub exponent-next : (c written : List ℕ) (i : ℕ) → written ≡ exponents c → getD written i 0 ≡ exponentAt c (i + 1)
+exponent-next c written i e = rw (add-one, e)
 
 module _ (c : List ℕ) (h : LegalCircuit c) where
   -- a legal circuit has D exponents

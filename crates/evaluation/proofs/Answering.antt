@@ -1,6 +1,6 @@
 -- Evaluate's answer and buffer, case by case.
 -- Assumes nothing.
-use Prim.Native.Nat.{ℕ, suc, _+_, _≤_, _<_}
+use Prim.Native.Nat.{ℕ, suc, _≤_, _<_}
 use mathlib.Core.Path.{_≡_, sym, ap, _∙_}
 use mathlib.Core.Bool.{true}
 use mathlib.Core.List.{List, flatten}
@@ -15,15 +15,12 @@ use Rattle.refusal.specs.Order.{need, first}
 use Rattle.refusal.specs.declared.Cause.{Cause}
 use Rattle.refusal.specs.declared.Cause.the-variants.{BufferShort}
 use Rattle.refusal.proofs.Order.{refused-first, numbered-suc, left-by}
-use Rattle.circuit.specs.Circuit.{depth, gatesBefore, valueCount}
+use Rattle.circuit.specs.Circuit.{valueCount}
 use Rattle.circuit.specs.Legal.{listsCause}
-use Rattle.circuit.specs.Sized.{LayerOf}
 use Rattle.circuit.specs.Values.{layers, value}
 use Rattle.evaluation.specs.Evaluate.{output, refused, evaluated, evaluateCause, evaluateAnswer, evaluateBuffer, Evaluates}
 use Rattle.evaluation.specs.Layer.{AllValues}
 use Rattle.evaluation.specs.declared.Evaluated.the-variants.{Output, Refused}
-use Rattle.circuit.proofs.Gates.{count-all}
-use Rattle.circuit.proofs.Loading.{legal-lists}
 use Rattle.circuit.proofs.Values.{all-size}
 use Rattle.evaluation.proofs.Evaluating.{output-first}
 
@@ -58,12 +55,3 @@ module _ (c input before : List ℕ) where
         answer = simp (e, fits) (ap output first);
         buffer = ap (λ (t : List ℕ). over t before) (front-take v total (n ∙ sym (all-size c input e))) ∙ sym (simp (e, fits));
       }
-
-  -- the gates and the input are all the values
-  pub total-values : (d gates : ℕ) → listsCause c input ≡ 0 → d ≡ depth c → (LayerOf c d → gates ≡ gatesBefore c d) → gates + length input ≡ valueCount c
-  unfolding valueCount
-  total-values d gates e deep counted =
-      let lists = legal-lists c input e in
-      let whole = lists .circuit .sized .headed in
-      let all = counted (record { headed = whole; inside = omega arith }) ∙ ap (gatesBefore c) deep ∙ count-all c whole in
-      omega (arith, all, lists .sized)

@@ -1,9 +1,9 @@
 -- Evaluation from the input up: from its place on the working array holds all values, and one layer more is filled before them.
 -- Assumes nothing.
-use Prim.Native.Nat.{ℕ, suc, _+_, _-_, _^_, _≤_, _<_}
+use Prim.Native.Nat.{ℕ, suc, _+_, _-_, _*_, _^_, _≤_, _<_}
 use mathlib.Core.Path.{_≡_, sym, ap, ap₂, _∙_, subst}
 use mathlib.Core.List.{List, _++_, map, flatten}
-use native.Mathlib.Nat.{le-refl, le-of-eq, sub-zero}
+use native.Mathlib.Nat.{le-refl, sub-zero}
 use native.Mathlib.Omega.{arith}
 use lib.ListN.{length, take, drop, getD, length-append, length-drop, take-append-drop}
 use lib.Seq.{length-take-le, drop-at, drop-drop, getD-take, take-all, take-append-add}
@@ -16,11 +16,11 @@ use Rattle.lists.proofs.Front.{front-over, front-take}
 use Rattle.algebra.specs.Numbers.{Numbers, words}
 use Rattle.circuit.specs.Limits.{maxValues}
 use Rattle.circuit.specs.Gate.{Gate, gateValue}
-use Rattle.circuit.specs.Circuit.{outputExponent, primeOf, depth, exponentAt, gatesOf, gateWords, gatesBefore, gatesAt, valueCount}
+use Rattle.circuit.specs.Circuit.{outputExponent, primeOf, depth, exponentAt, gatesOf, gatesStart, gatesBefore, gatesAt, valueCount}
 use Rattle.circuit.specs.Legal.{listsCause}
 use Rattle.circuit.specs.Sized.{LegalCircuit}
 use Rattle.circuit.specs.Values.{layers, valuesAt, value}
-use Rattle.circuit.proofs.Gates.{before-next, count-none, layer-words, layer-gates}
+use Rattle.circuit.proofs.Gates.{before-next, count-none, gatesFrom, rest-room, rest-words, rest-gates}
 use Rattle.circuit.proofs.Loading.{legal-lists}
 use Rattle.circuit.proofs.Layers.{layer-by-layer, last-layer, legal-wires}
 use Rattle.circuit.proofs.Values.{values-split, layer-part, layer-room, all-size}
@@ -82,15 +82,15 @@ module _ (c input : List ℕ) (e : listsCause c input ≡ 0) where
         let size : length (drop at all) ≡ w = length-drop at all ∙ omega (arith, all-size c input e, values-split c legal) in
         sym (take-all w (drop at all) (omega arith)) ∙ ap (λ (m : ℕ). take w (drop m all)) place ∙ layer-part c input e (depth c) (le-refl (depth c)) ∙ last-layer c input e
 
-    ends : at + length input ≡ valueCount c
-    ends = omega (arith, ap length last, length-drop at all, all-size c input e, layer-inside (depth c) (le-refl (depth c)))
+    pub input-ends : at + length input ≡ valueCount c
+    input-ends = omega (arith, ap length last, length-drop at all, all-size c input e, layer-inside (depth c) (le-refl (depth c)))
 
     pub input-fits : at + length input ≤ maxValues
-    input-fits = omega (arith, ends, in-limits c legal .values)
+    input-fits = omega (arith, input-ends, in-limits c legal .values)
 
     pub filled-start : (values : List ℕ) → Placed input at values → Filled c input values (depth c) at
     filled-start values placed =
-        let n : valueCount c - at ≡ length input = omega (arith, ends) in
+        let n : valueCount c - at ≡ length input = omega (arith, input-ends) in
         record {
           inside = le-refl (depth c);
           place = place;
@@ -119,14 +119,17 @@ module _ (c input : List ℕ) (e : listsCause c input ≡ 0) where
     turn-sizes = (omega (arith, next), omega (arith, room, in-limits c legal .values))
 
     -- its gates, and what their wires name
-    gates-are : gatesOf count (gateWords c at count) ≡ gatesAt c j
-    gates-are = layer-gates c (legal .sized) j at count inside here wide
+    pub turn-room : 3 * at ≤ length (drop (gatesStart c) c)
+    turn-room = omega (arith, rest-room c (legal .sized) j at count inside here wide)
+
+    gates-are : gatesOf count (gatesFrom c at) ≡ gatesAt c j
+    gates-are = rest-gates c (legal .sized) j at count inside here wide
 
     wires : All (λ g. (g .left < 2 ^ exponentAt c (suc j)) × (g .right < 2 ^ exponentAt c (suc j))) (gatesAt c j)
     wires = legal-wires c legal j inside
 
     -- what the filling asks, with the values as they are lent
-    pub turn-fillable : Fillable (gateWords c at count) count (take (maxValues - at) (drop at values))
+    pub turn-fillable : Fillable (gatesFrom c at) count (take (maxValues - at) (drop at values))
     turn-fillable =
         let most = in-limits c legal .values in
         let ends = room in
@@ -134,7 +137,7 @@ module _ (c input : List ℕ) (e : listsCause c input ≡ 0) where
         let size : length (take (maxValues - at) (drop at values)) ≡ maxValues - at =
         ap length (rest-lent values at maxValues (F .size)) ∙ length-drop at values ∙ ap (λ (n : ℕ). n - at) (F .size) in
         record {
-          words = le-of-eq (sym (layer-words c (legal .sized) j at count inside here wide));
+          words = rest-words c (legal .sized) j at count inside here wide;
           room = omega arith;
           wired =
               rw (gates-are, size)
@@ -150,7 +153,7 @@ module _ (c input : List ℕ) (e : listsCause c input ≡ 0) where
         ∙ ap (λ (t : List ℕ). getD t i 0) (ap (λ (m : ℕ). take w (drop m all)) (F .place) ∙ layer-part c input e (suc j) inside)
 
     abbrev layer : List ℕ
-    layer = layerValues N count (gateWords c at count) (drop at values)
+    layer = layerValues N count (gatesFrom c at) (drop at values)
 
     behind : (l : List ℕ) → drop count (drop at l) ≡ drop from l
     behind l = let n : at + count ≡ from = omega (arith, next) in drop-drop count at l ∙ ap (λ (m : ℕ). drop m l) n
@@ -171,14 +174,14 @@ module _ (c input : List ℕ) (e : listsCause c input ≡ 0) where
 
     -- the array with the layer, as the borrow checker gives it
     pub turn-filled : (q : ℕ) (rest : List ℕ) → q ≡ primeOf c
-        → rest ≡ over (layerValues (words q) count (gateWords c at count) (take (maxValues - at) (drop at values))) (take (maxValues - at) (drop at values))
+        → rest ≡ over (layerValues (words q) count (gatesFrom c at) (take (maxValues - at) (drop at values))) (take (maxValues - at) (drop at values))
         → Filled c input (take at values ++ (rest ++ drop (maxValues - at) (drop at values))) j at
     turn-filled q rest eq er =
-        let n : length layer ≡ count = length-layer N count (gateWords c at count) (drop at values) in
+        let n : length layer ≡ count = length-layer N count (gatesFrom c at) (drop at values) in
         let starts = next in
         let fits : at + length layer ≤ maxValues = let most = turn-sizes in omega arith in
         let now : rest ≡ over layer (take (maxValues - at) (drop at values)) =
-        er ∙ ap₂ (λ (p : ℕ) (v : List ℕ). over (layerValues (words p) count (gateWords c at count) v) (take (maxValues - at) (drop at values)))
+        er ∙ ap₂ (λ (p : ℕ) (v : List ℕ). over (layerValues (words p) count (gatesFrom c at) v) (take (maxValues - at) (drop at values)))
         eq (rest-lent values at maxValues (F .size)) in
         let whole = put values rest layer at (F .size) fits now in
         let long : valueCount c - at ≡ length layer + (valueCount c - from) = let ends = room in omega arith in

@@ -9,6 +9,7 @@ ghost use Rattle.lists.specs.Buffer.{over};
 ghost use Rattle.field.specs.Modulus.{numbers};
 ghost use Rattle.circuit.specs.Limits.{maxValues};
 ghost use Rattle.circuit.specs.Gate.{operate};
+ghost use Rattle.circuit.specs.Circuit.{depth, gatesBefore};
 ghost use Rattle.circuit.specs.Legal.{listsCause};
 ghost use Rattle.evaluation.specs.Layer.{layerValues, AllValues, Fillable, Placed};
 ghost use Rattle.evaluation.specs.Evaluate.{Evaluates};
@@ -50,24 +51,20 @@ fn place_input(input: &[u32], at: usize) -> [u32; MAX_VALUES]
     values
 }
 
-// The values of all layers, the output's first, in a working array that is filled from the input up.
-fn all_values(circuit: &[u32], input: &[u32]) -> [u32; MAX_VALUES]
-    requires { ⌜ listsCause (now circuit) (now input) ≡ 0 ⌝ }
+// The values of all layers, the output's first, in a working array that is filled from the input's place up.
+fn all_values(circuit: &[u32], input: &[u32], place: usize) -> [u32; MAX_VALUES]
+    requires { ⌜ (listsCause (now circuit) (now input) ≡ 0) × (place ≡ gatesBefore (now circuit) (depth (now circuit))) ⌝ }
     ensures { λ r. ⌜ AllValues (now (circuit .entry)) (now (input .entry)) r ⌝ }
 {
     let f = Field::of(layout::prime(circuit));
     let depth = layout::depth(circuit);
-    let mut at = layout::gates_before(circuit, depth);
+    let gates = layout::all_gates(circuit);
+    let mut at = place;
     let mut values = place_input(input, at);
     for i in 0..depth {
         let count = layout::width(layout::exponent(circuit, depth - 1 - i));
         at -= count;
-        fill_layer(
-            f,
-            layout::gates(circuit, at, count),
-            count,
-            &mut values[at..],
-        );
+        fill_layer(f, &gates[3 * at..], count, &mut values[at..]);
     }
     values
 }
@@ -86,11 +83,12 @@ pub fn evaluate(circuit: &[u32], input: &[u32], buffer: &mut [u32]) -> Evaluated
     if let Checked::Refused(cause) = checked {
         return Evaluated::Refused(cause);
     }
-    let total = layout::gates_before(circuit, layout::depth(circuit)) + input.len();
+    let place = layout::gates_before(circuit, layout::depth(circuit));
+    let total = place + input.len();
     if buffer.len() < total {
         return Evaluated::Refused(Cause::BufferShort);
     }
-    let values = all_values(circuit, input);
+    let values = all_values(circuit, input, place);
     lists::put(buffer, &values[..total]);
     Evaluated::Output(values[0])
 }

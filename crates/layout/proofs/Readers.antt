@@ -8,6 +8,7 @@ use native.Mathlib.Omega.{arith}
 use lib.ListN.{length, length-drop, length-take, take, drop, getD, drop-of-length-le, List·getD-eq-default}
 use lib.Seq.{take-nil, getD-take, getD-drop}
 use Rattle.lists.proofs.Parts.{take-most}
+use Rattle.lists.proofs.Buffer.{rest-lent}
 use Rattle.circuit.specs.Limits.{headerWords}
 use Rattle.circuit.specs.Circuit.{depth, exponents, exponentAt, gatesOf, gatesStart, gateWords, gatesBefore}
 use Rattle.circuit.specs.Sized.{Sized}
@@ -29,12 +30,23 @@ part-cut l a n = go (decLe a (length l))
         ap (take (min (a + n) (length l) - m)) (drop-of-length-le l {i = m} (omega arith)) ∙ take-nil (min (a + n) (length l) - m)
         ∙ sym (ap (take n) (drop-of-length-le l {i = a} (omega arith)) ∙ take-nil n)
 
+-- all words from place a on
+rest-cut : (l : List ℕ) (a : ℕ) → drop (min a (length l)) l ≡ drop a l
+rest-cut l a = go (decLe a (length l))
+  where
+    go : Dec (a ≤ length l) → drop (min a (length l)) l ≡ drop a l
+    go (yes h) = let start : min a (length l) ≡ a = omega arith in rw start
+    go (no h) = drop-of-length-le l {i = min a (length l)} (omega arith) ∙ sym (drop-of-length-le l {i = a} (omega arith))
+
 module _ (c : List ℕ) where
   pub exponents-part : (start end : ℕ) → start ≡ min headerWords (length c) → end ≡ min (gatesStart c) (length c)
       → take (end - start) (drop start c) ≡ exponents c
   unfolding exponents
   exponents-part start end es ee =
       ap₂ (λ (a b : ℕ). take (b - a) (drop a c)) es ee ∙ part-cut c headerWords (depth c)
+
+  pub gates-rest : (start : ℕ) → start ≡ min (gatesStart c) (length c) → take (length c - start) (drop start c) ≡ drop (gatesStart c) c
+  gates-rest start es = rest-lent c start (length c) refl ∙ ap (λ (a : ℕ). drop a c) es ∙ rest-cut c (gatesStart c)
 
   pub gates-part : (from count start end : ℕ) → start ≡ min (gatesStart c + 3 * min from (length c)) (length c)
       → end ≡ min (start + 3 * min count (length c)) (length c) → take (end - start) (drop start c) ≡ gateWords c from count

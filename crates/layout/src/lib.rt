@@ -3,7 +3,7 @@
 ghost use mathlib.Core.Path.{_≡_};
 ghost use Prim.Native.Nat.{_^_, _<_};
 ghost use lib.Dec.{leb};
-ghost use lib.ListN.{length};
+ghost use lib.ListN.{length, drop};
 ghost use Rattle.circuit.specs.Limits.{headerWords};
 ghost use Rattle.circuit.specs.Circuit.{primeOf, depth, exponents, exponentAt, widthOf, gatesStart, gateWords, wordCount};
 ghost use Rattle.circuit.specs.Sized.{Exponents};
@@ -76,9 +76,12 @@ pub fn gates_before(circuit: &[u32], layer: usize) -> usize
     if MAX_DEPTH < layer {
         return 0;
     }
+    let written = exponents(circuit);
     let mut count = 0;
-    for i in 0..layer {
-        count += width(exponent(circuit, i));
+    let mut own = width(exponent(circuit, 0));
+    for i in 0..lists::least(layer, written.len()) {
+        count += own;
+        own = width(written[i]);
     }
     count
 }
@@ -97,8 +100,16 @@ pub fn word_count(circuit: &[u32]) -> usize
     gates_start(circuit) + 3 * gates_before(circuit, depth(circuit))
 }
 
+// The words of all gates.
+pub fn all_gates(circuit: &[u32]) -> &[u32]
+    ensures { λ r. ⌜ now r ≡ drop (gatesStart (now (circuit .entry))) (now (circuit .entry)) ⌝ }
+{
+    let start = lists::least(gates_start(circuit), circuit.len());
+    &circuit[start..]
+}
+
 // The words of `count` gates, from gate number `from` on, as many of them as the list has.
-pub fn gates(circuit: &[u32], from: usize, count: usize) -> &[u32]
+fn gates(circuit: &[u32], from: usize, count: usize) -> &[u32]
     ensures { λ r. ⌜ now r ≡ gateWords (now (circuit .entry)) from count ⌝ }
 {
     let all = circuit.len();

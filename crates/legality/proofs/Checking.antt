@@ -3,7 +3,6 @@
 use Prim.Native.Nat.{ℕ, _+_, _*_, _^_, _≤_, _<_}
 use mathlib.Core.Path.{_≡_, refl, sym, ap, ap₂, _∙_}
 use mathlib.Core.List.{List}
-use native.Mathlib.Nat.{le-of-eq}
 use native.Mathlib.Numerals.{add-one}
 use native.Mathlib.Omega.{arith}
 use lib.ListN.{length, drop}
@@ -13,11 +12,11 @@ use Rattle.refusal.specs.declared.Cause.{Cause}
 use Rattle.refusal.proofs.Order.{refused-first, legal-first}
 use Rattle.circuit.specs.Gate.{Gate}
 use Rattle.circuit.specs.Limits.{maxGates}
-use Rattle.circuit.specs.Circuit.{depth, exponents, exponentAt, outputExponent, widthOf, gatesOf, gateWords, gatesBefore, gateLayers}
+use Rattle.circuit.specs.Circuit.{depth, exponents, exponentAt, outputExponent, widthOf, gatesOf, gatesStart, gatesBefore, gateLayers}
 use Rattle.circuit.specs.Legal.{gatesCause, layersCause}
 use Rattle.circuit.specs.Sized.{Sized}
 use Rattle.circuit.proofs.Sized.{one-output, width-of}
-use Rattle.circuit.proofs.Gates.{count-none, before-next, before-few, layer-words, layer-gates, layers-at, layers-end}
+use Rattle.circuit.proofs.Gates.{count-none, before-next, before-few, gatesFrom, rest-room, rest-words, rest-gates, layers-at, layers-end}
 
 -- before a layer, or behind the last: the gates passed, its own, and what is left decides
 pub record BeforeLayer (c : List ℕ) (layer from count : ℕ) : Type 0 where
@@ -40,8 +39,11 @@ module _ (c : List ℕ) (h : Sized c) where
 
   -- a layer of the circuit
   module _ (layer from count : ℕ) (b : BeforeLayer c layer from count) (more : layer < depth c) where
-    pub layer-there : 3 * count ≤ length (gateWords c from count)
-    layer-there = le-of-eq (sym (layer-words c h layer from count more (b .passed) (b .wide)))
+    pub layer-room : 3 * from + 3 * count ≤ length (drop (gatesStart c) c)
+    layer-room = rest-room c h layer from count more (b .passed) (b .wide)
+
+    pub layer-there : 3 * count ≤ length (gatesFrom c from)
+    layer-there = rest-words c h layer from count more (b .passed) (b .wide)
 
     after : from + count ≡ gatesBefore c (layer + 1)
     after =
@@ -53,17 +55,17 @@ module _ (c : List ℕ) (h : Sized c) where
 
     module _ (next : ℕ) (e : next ≡ 2 ^ exponentAt c (layer + 1)) where
       opens : layersCause (exponents c) (gateLayers c)
-          ≡ first (gatesCause next (gatesOf count (gateWords c from count))) (layersCause (drop (layer + 1) (exponents c)) (drop (layer + 1) (gateLayers c)))
+          ≡ first (gatesCause next (gatesOf count (gatesFrom c from))) (layersCause (drop (layer + 1) (exponents c)) (drop (layer + 1) (gateLayers c)))
       opens =
           b .left ∙ layers-at c (h .headed) layer more
           ∙ sym (ap₂ (λ (n : ℕ) (gs : List Gate). first (gatesCause n gs) (layersCause (drop (layer + 1) (exponents c)) (drop (layer + 1) (gateLayers c))))
-          e (layer-gates c h layer from count more (b .passed) (b .wide)))
+          e (rest-gates c h layer from count more (b .passed) (b .wide)))
 
-      pub layer-refused : (cause : Cause) → numberOf cause ≡ gatesCause next (gatesOf count (gateWords c from count))
+      pub layer-refused : (cause : Cause) → numberOf cause ≡ gatesCause next (gatesOf count (gatesFrom c from))
           → layersCause (exponents c) (gateLayers c) ≡ numberOf cause
       layer-refused cause q = opens ∙ refused-first cause _ _ q
 
-      pub layer-legal : gatesCause next (gatesOf count (gateWords c from count)) ≡ 0 → BeforeLayer c (layer + 1) (from + count) next
+      pub layer-legal : gatesCause next (gatesOf count (gatesFrom c from)) ≡ 0 → BeforeLayer c (layer + 1) (from + count) next
       layer-legal q = record {
         inside = omega arith;
         passed = after;

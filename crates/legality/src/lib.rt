@@ -31,9 +31,6 @@ fn check_gate(kind: u32, left: u32, right: u32, next: usize) -> Checked
     if 2 < kind {
         return Checked::Refused(Cause::GateKind);
     }
-    if next <= left as usize {
-        return Checked::Refused(Cause::GateWires);
-    }
     if next <= right as usize {
         return Checked::Refused(Cause::GateWires);
     }
@@ -69,11 +66,13 @@ fn check_layers(circuit: &[u32]) -> Checked
     requires { ⌜ Sized (now circuit) ⌝ }
     ensures { λ r. ⌜ causeOf r ≡ layersCause (exponents (now (circuit .entry))) (gateLayers (now (circuit .entry))) ⌝ }
 {
+    let exponents = layout::exponents(circuit);
+    let gates = layout::all_gates(circuit);
     let mut from = 0;
     let mut count = layout::width(layout::exponent(circuit, 0));
-    for layer in 0..layout::depth(circuit) {
-        let next = layout::width(layout::exponent(circuit, layer + 1));
-        let checked = check_gates(layout::gates(circuit, from, count), count, next);
+    for layer in 0..exponents.len() {
+        let next = layout::width(exponents[layer]);
+        let checked = check_gates(&gates[3 * from..], count, next);
         if let Checked::Refused(cause) = checked {
             return Checked::Refused(cause);
         }

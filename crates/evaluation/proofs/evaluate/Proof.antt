@@ -2,17 +2,19 @@
 -- Assumes nothing.
 use Prim.Native.Nat.{ℕ, _+_, _≤_}
 use mathlib.Core.Path.{_≡_, sym, ap, _∙_}
+use native.Mathlib.Nat.{le-of-eq}
 use native.Mathlib.Omega.{arith}
 use lib.ListN.{length, take}
 use lib.Seq.{length-take-le}
 use Rattle.lists.proofs.Buffer.{over-whole}
 use Rattle.refusal.specs.Number.{causeOf}
 use Rattle.circuit.specs.Limits.{maxValues}
-use Rattle.circuit.specs.Circuit.{valueCount}
+use Rattle.circuit.specs.Circuit.{depth, gatesBefore, valueCount}
 use Rattle.circuit.specs.Legal.{listsCause}
+use Rattle.circuit.proofs.Sized.{layer-of}
 use Rattle.circuit.proofs.Loading.{legal-lists}
-use Rattle.circuit.proofs.Largest.{in-limits}
-use Rattle.evaluation.proofs.Answering.{left-lists, left-short, left-values, total-values}
+use Rattle.evaluation.proofs.Evaluating.{input-ends, input-fits}
+use Rattle.evaluation.proofs.Answering.{left-lists, left-short, left-values}
 use borrow.Author.Needs.{needs}
 use Rattle.evaluation.proofs.evaluate.Statement.{statement}
 use Rattle.evaluation.proofs.evaluate.Tie as tie
@@ -24,16 +26,21 @@ start g = g .before .before .before .before .before .before .before .before
 legal : (g : tie.After-gates-before) → listsCause (start g .args .circuit .now) (start g .args .input .now) ≡ 0
 legal g = sym (g .before .before .before .before .check-lists .ensures) ∙ ap causeOf (g .before .before .enum-told .given .1)
 
+place : (g : tie.After-gates-before) → g .gates-before .result ≡ gatesBefore (start g .args .circuit .now) (depth (start g .args .circuit .now))
+place g =
+    let l = start g .args .circuit .now in
+    let deep = g .before .depth .ensures .0 in
+    let circuit = legal-lists l (start g .args .input .now) (legal g) .circuit in
+    g .gates-before .ensures .counted (layer-of l circuit _ (le-of-eq deep)) ∙ ap (gatesBefore l) deep
+
 abbrev total : tie.After-gates-before → ℕ
 total g = g .gates-before .result + length (start g .args .input .now)
 
 total-is : (g : tie.After-gates-before) → total g ≡ valueCount (start g .args .circuit .now)
-total-is g = total-values _ _ (start g .args .buffer .now) _ _ (legal g) (g .before .depth .ensures .0) (g .gates-before .ensures .counted)
+total-is g = input-ends _ _ (legal g) _ (place g)
 
 few : (g : tie.After-gates-before) → total g ≤ maxValues
-few g =
-    let most = in-limits _ (legal-lists (start g .args .circuit .now) (start g .args .input .now) (legal g) .circuit) .values in
-    omega (arith, total-is g)
+few g = input-fits _ _ (legal g) _ (place g)
 
 -- behind 10, where all values are in the array
 abbrev counted : tie.After-all-values → tie.After-gates-before
@@ -71,7 +78,7 @@ returns-2 c =
     left-short _ _ _ (legal g) (omega (arith, c .if1 .taken, total-is g))
 
 all-values-requires : tie.Need-all-values-requires
-all-values-requires c κs = legal (c .before)
+all-values-requires c κs = (legal (c .before), place (c .before))
 
 array-share-prefix-values : tie.Need-array-share-prefix-values
 array-share-prefix-values c =
@@ -84,8 +91,8 @@ slice-aggregate-put c = sym (front (c .before .before))
 put-requires : tie.Need-put-requires
 put-requires c κs = search needs
 
-array-read-t21 : tie.Need-array-read-t21
-array-read-t21 c = search needs
+array-read-t20 : tie.Need-array-read-t20
+array-read-t20 c = search needs
 
 same-length : tie.Need-same-length
 same-length c = search needs
@@ -113,6 +120,6 @@ evaluate-spec =
     array-share-prefix-values
     slice-aggregate-put
     put-requires
-    array-read-t21
+    array-read-t20
     same-length
     returns-3)

@@ -1,23 +1,40 @@
--- `gates_before` meets its contract: before turn i the count is of the gates of the layers before i.
+-- `gates_before` meets its contract: before turn i the count is of the gates of the layers before i, and layer i is `own` wide.
 -- Assumes nothing.
 use borrow.Author.Needs.{needs}
 use Prim.Native.Nat.{_≤_, _-_, _*_}
-use mathlib.Core.Path.{_≡_, ap, _∙_}
+use mathlib.Core.Path.{_≡_, refl, ap, _∙_}
 use native.Mathlib.Omega.{arith}
-use Rattle.circuit.specs.Limits.{maxWidth}
-use Rattle.circuit.specs.Circuit.{gatesBefore}
+use lib.ListN.{length}
+use Rattle.circuit.specs.Limits.{maxDepth, maxWidth}
+use Rattle.circuit.specs.Circuit.{exponentAt, widthOf, gatesBefore}
 use Rattle.circuit.specs.Sized.{LayerOf}
-use Rattle.circuit.proofs.Sized.{width-small}
+use Rattle.circuit.proofs.Sized.{width-small, exponent-next}
 use Rattle.circuit.proofs.Gates.{count-none, count-turn}
 use Rattle.layout.proofs.gates_before.Statement.{statement}
 use Rattle.layout.proofs.gates_before.Tie as tie
 
 abbrev Inv-loop : tie.InvT-loop
-Inv-loop circuit layer count₀ i₀ count i =
-    (i ≤ layer) × (count ≤ i * maxWidth) × (LayerOf circuit layer → count ≡ gatesBefore circuit i)
+Inv-loop circuit layer written count₀ own₀ i₀ i-end count own i =
+    (i ≤ i-end) × (count ≤ i * maxWidth) × (own ≡ widthOf (exponentAt circuit i)) × (LayerOf circuit layer → count ≡ gatesBefore circuit i)
 
 abbrev μ-loop : tie.MeasureT-loop
-μ-loop circuit layer count₀ i₀ count i = layer - i
+μ-loop circuit layer written count₀ own₀ i₀ i-end count own i = i-end - i
+
+-- where the layers are counted, and a turn of the loop
+abbrev Cut : Type 0
+Cut = tie.After-least Inv-loop μ-loop
+
+abbrev start : Cut → tie.Start Inv-loop μ-loop
+start t = t .before .before .before .before .before .before
+
+few : (t : Cut) → t .least .result ≤ maxDepth
+few t = omega (arith, t .least .ensures, t .before .before .before .before .if1 .left)
+
+abbrev Turn : Type 0
+Turn = tie.In-loop Inv-loop μ-loop
+
+small : (t : Turn) → t .before .loop .own ≤ maxWidth
+small t = let w = width-small (exponentAt (start (t .before .before) .args .circuit .now) (t .before .loop .i)) in omega (arith, t .before .loop .inv .2)
 
 returns : tie.Need-returns Inv-loop μ-loop
 returns c = record {
@@ -25,8 +42,8 @@ returns c = record {
   counted = λ h. absurd (omega (arith, h .headed .shallow, h .inside, c .if1 .taken));
 }
 
-loop-holds : tie.Need-loop-holds Inv-loop μ-loop
-loop-holds c = (search needs, search needs, λ h. count-none (c .before .before .args .circuit .now))
+exponents-requires : tie.Need-exponents-requires Inv-loop μ-loop
+exponents-requires c κs = search needs
 
 exponent-requires : tie.Need-exponent-requires Inv-loop μ-loop
 exponent-requires c κs = search needs
@@ -34,11 +51,25 @@ exponent-requires c κs = search needs
 width-requires : tie.Need-width-requires Inv-loop μ-loop
 width-requires c κs = search needs
 
+least-requires : tie.Need-least-requires Inv-loop μ-loop
+least-requires c κs = search needs
+
+loop-holds : tie.Need-loop-holds Inv-loop μ-loop
+loop-holds c =
+    let l = start c .args .circuit .now in
+    (search needs, search needs, c .before .width .ensures ∙ ap widthOf (c .before .before .exponent .ensures), λ h. count-none l)
+
 add-count : tie.Need-add-count Inv-loop μ-loop
-add-count c =
-    let at = c .before .before .before in
-    let small = width-small (c .before .exponent .result) in
-    omega (arith, small, c .width .ensures, at .loop .inv .1, at .loop .inv .0, at .before .if1 .left)
+add-count c = let w = small c in let n = few (c .before .before) in omega arith
+
+mul-width : tie.Need-mul-width Inv-loop μ-loop
+mul-width c = search needs
+
+shared-slice-read-width : tie.Need-shared-slice-read-width Inv-loop μ-loop
+shared-slice-read-width c = search needs
+
+width-requires-2 : tie.Need-width-requires-2 Inv-loop μ-loop
+width-requires-2 c κs = search needs
 
 add-i : tie.Need-add-i Inv-loop μ-loop
 add-i c = search needs
@@ -48,25 +79,27 @@ loop-less c = search needs
 
 loop-again : tie.Need-loop-again Inv-loop μ-loop
 loop-again c =
-    let at = c .before .before .before in
-    let l = at .before .before .before .args .circuit .now in
-    let small = width-small (c .before .exponent .result) in (
+    let t = c .before .before in
+    let at = t .before in
+    let l = start (at .before) .args .circuit .now in
+    let w = small t in (
       search needs,
-      omega (arith, small, c .width .ensures, at .loop .inv .1),
-      λ h.
-          count-turn l (h .headed) (at .loop .i) (at .loop .count) (c .before .exponent .result) (c .width .result) (omega (arith, h .inside)) (at .loop .inv .2 h)
-          (c .before .exponent .ensures) (c .width .ensures),
+      omega arith,
+      c .width2 .ensures ∙ ap widthOf (exponent-next l _ (at .loop .i) (at .before .before .before .before .exponents .ensures)),
+      λ h. count-turn l (h .headed) (at .loop .i) (at .loop .count) (exponentAt l (at .loop .i)) (at .loop .own) (omega (arith, h .inside, at .before .least .ensures)) (at .loop .inv .3 h) refl (at .loop .inv .2),
     )
 
 returns-2 : tie.Need-returns-2 Inv-loop μ-loop
 returns-2 c =
     let at = c .before in
-    let start = at .before .before .before in
-    let l = start .args .circuit .now in
-    let all : at .loop .i ≡ start .args .layer = search needs in
+    let l = start (at .before) .args .circuit .now in
+    let n = few (at .before) in
     record {
-      few = omega (arith, at .loop .inv .1, at .loop .inv .0, at .before .if1 .left);
-      counted = λ h. at .loop .inv .2 h ∙ ap (gatesBefore l) all;
+      few = omega arith;
+      counted = λ h.
+          let all : at .loop .i ≡ start (at .before) .args .layer =
+          omega (arith, c .loop-test .left, at .before .least .ensures, ap length (at .before .before .before .before .exponents .ensures), h .headed .whole, h .inside) in
+          at .loop .inv .3 h ∙ ap (gatesBefore l) all;
     }
 
 pub gates-before-spec : {M : Type 1} → statement M
@@ -76,10 +109,15 @@ gates-before-spec =
     Inv-loop
     μ-loop
     returns
-    loop-holds
+    exponents-requires
     exponent-requires
     width-requires
+    least-requires
+    loop-holds
     add-count
+    mul-width
+    shared-slice-read-width
+    width-requires-2
     add-i
     loop-less
     loop-again

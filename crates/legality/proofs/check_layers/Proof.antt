@@ -1,21 +1,26 @@
 -- `check_layers` meets its contract: what is left from a layer on decides as all the layers do.
 -- Assumes nothing.
-use Prim.Native.Nat.{_+_, _-_, _^_, _<_}
-use mathlib.Core.Path.{_≡_, sym, ap, _∙_}
+use Prim.Native.Nat.{ℕ, _+_, _-_, _*_, _^_, _≤_, _<_}
+use mathlib.Core.Path.{_≡_, refl, sym, ap, _∙_}
+use mathlib.Core.List.{List}
 use native.Mathlib.Omega.{arith}
+use lib.ListN.{length, take, drop}
+use Rattle.lists.proofs.Buffer.{rest-lent}
 use Rattle.refusal.specs.Number.{causeOf}
+use Rattle.circuit.specs.Limits.{maxGates}
 use Rattle.circuit.specs.Circuit.{depth, exponentAt, widthOf}
-use Rattle.circuit.proofs.Sized.{exponent-width}
-use Rattle.legality.proofs.Checking.{BeforeLayer, checks-start, layer-there, layer-few, layer-refused, layer-legal, checks-end}
+use Rattle.circuit.proofs.Sized.{exponent-width, exponent-next}
+use Rattle.circuit.proofs.Gates.{gatesFrom}
+use Rattle.legality.proofs.Checking.{BeforeLayer, checks-start, layer-room, layer-there, layer-few, layer-refused, layer-legal, checks-end}
 use borrow.Author.Needs.{needs}
 use Rattle.legality.proofs.check_layers.Statement.{statement}
 use Rattle.legality.proofs.check_layers.Tie as tie
 
 abbrev Inv-loop : tie.InvT-loop
-Inv-loop circuit from₀ count₀ layer₀ layer-end from count layer = (layer-end ≡ depth circuit) × BeforeLayer circuit layer from count
+Inv-loop circuit exponents gates from₀ count₀ layer₀ layer-end from count layer = (layer-end ≡ depth circuit) × BeforeLayer circuit layer from count
 
 abbrev μ-loop : tie.MeasureT-loop
-μ-loop circuit from₀ count₀ layer₀ layer-end from count layer = layer-end - layer
+μ-loop circuit exponents gates from₀ count₀ layer₀ layer-end from count layer = layer-end - layer
 
 -- a turn of the loop, with the width of the layer after its own
 abbrev Turn : Type 0
@@ -24,18 +29,42 @@ Turn = tie.After-width2 Inv-loop μ-loop
 abbrev at : Turn → tie.At-loop Inv-loop μ-loop
 at t = t .before .before .before
 
-abbrev start : Turn → tie.Start Inv-loop μ-loop
-start t = at t .before .before .before .before .before
+abbrev parts : Turn → tie.After-all-gates Inv-loop μ-loop
+parts t = at t .before .before .before
 
-inside : (t : Turn) → at t .loop .layer < depth (start t .args .circuit .now)
+abbrev start : Turn → tie.Start Inv-loop μ-loop
+start t = parts t .before .before .before
+
+abbrev list : Turn → List ℕ
+list t = start t .args .circuit .now
+
+inside : (t : Turn) → at t .loop .layer < depth (list t)
 inside t = omega (arith, t .before .before .loop-test .taken, at t .loop .inv .0)
 
-next : (t : Turn) → t .width2 .result ≡ 2 ^ exponentAt (start t .args .circuit .now) (at t .loop .layer + 1)
+next : (t : Turn) → t .width2 .result ≡ 2 ^ exponentAt (list t) (at t .loop .layer + 1)
 next t =
-    let l = start t .args .circuit .now in
     let low = inside t in
-    t .width2 .ensures ∙ ap widthOf (t .before .exponent2 .ensures)
-    ∙ exponent-width l (at t .loop .layer + 1) (record { headed = start t .pre .headed; inside = omega arith })
+    t .width2 .ensures ∙ ap widthOf (exponent-next (list t) _ (at t .loop .layer) (parts t .before .exponents .ensures))
+    ∙ exponent-width (list t) (at t .loop .layer + 1) (record { headed = start t .pre .headed; inside = omega arith })
+
+-- its gates stand first in the rest of the words, and there is room for them
+abbrev gates : Turn → List ℕ
+gates t = parts t .all-gates .result .now
+
+rest : (t : Turn) → take (length (gates t) - 3 * at t .loop .from) (drop (3 * at t .loop .from) (gates t)) ≡ gatesFrom (list t) (at t .loop .from)
+rest t = rest-lent (gates t) (3 * at t .loop .from) (length (gates t)) refl ∙ ap (drop (3 * at t .loop .from)) (parts t .all-gates .ensures)
+
+room : (t : Turn) → 3 * at t .loop .from ≤ length (gates t)
+room t = omega (arith, layer-room _ (start t .pre) _ _ _ (at t .loop .inv .1) (inside t), ap length (parts t .all-gates .ensures))
+
+few : (t : Turn) → at t .loop .from + at t .loop .count ≤ maxGates
+few t = layer-few _ (start t .pre) _ _ _ (at t .loop .inv .1) (inside t)
+
+exponents-requires : tie.Need-exponents-requires Inv-loop μ-loop
+exponents-requires c κs = search needs
+
+all-gates-requires : tie.Need-all-gates-requires Inv-loop μ-loop
+all-gates-requires c κs = search needs
 
 exponent-requires : tie.Need-exponent-requires Inv-loop μ-loop
 exponent-requires c κs = search needs
@@ -43,30 +72,41 @@ exponent-requires c κs = search needs
 width-requires : tie.Need-width-requires Inv-loop μ-loop
 width-requires c κs = search needs
 
-depth-requires : tie.Need-depth-requires Inv-loop μ-loop
-depth-requires c κs = search needs
-
 loop-holds : tie.Need-loop-holds Inv-loop μ-loop
 loop-holds c =
-    let start = c .before .before .before .before in
-    (c .depth .ensures .0, checks-start (start .args .circuit .now) (start .pre) _ (c .before .width .ensures ∙ ap widthOf (c .before .before .exponent .ensures)))
+    let start = c .before .before .before .before .before in (
+      ap length (c .before .before .before .exponents .ensures) ∙ start .pre .headed .whole,
+      checks-start (start .args .circuit .now) (start .pre) _ (c .width .ensures ∙ ap widthOf (c .before .exponent .ensures)),
+    )
 
-add-exponent : tie.Need-add-exponent Inv-loop μ-loop
-add-exponent c = search needs
+mul-width : tie.Need-mul-width Inv-loop μ-loop
+mul-width c = search needs
 
-exponent-requires-2 : tie.Need-exponent-requires-2 Inv-loop μ-loop
-exponent-requires-2 c κs = search needs
+shared-slice-read-width : tie.Need-shared-slice-read-width Inv-loop μ-loop
+shared-slice-read-width c = search needs
 
 width-requires-2 : tie.Need-width-requires-2 Inv-loop μ-loop
 width-requires-2 c κs = search needs
 
-gates-requires : tie.Need-gates-requires Inv-loop μ-loop
-gates-requires c κs = search needs
+mul-check-gates : tie.Need-mul-check-gates Inv-loop μ-loop
+mul-check-gates c = let n = few c in omega arith
+
+mul-check-gates-2 : tie.Need-mul-check-gates-2 Inv-loop μ-loop
+mul-check-gates-2 c = let n = few c in omega arith
+
+sub-check-gates : tie.Need-sub-check-gates Inv-loop μ-loop
+sub-check-gates c = let r = room c in omega arith
+
+part-check-gates-start : tie.Need-part-check-gates-start Inv-loop μ-loop
+part-check-gates-start c = let r = room c in omega arith
+
+part-check-gates-end : tie.Need-part-check-gates-end Inv-loop μ-loop
+part-check-gates-end c = let r = room c in omega arith
 
 check-gates-requires : tie.Need-check-gates-requires Inv-loop μ-loop
 check-gates-requires c κs =
     let t = c .before in
-    rw (c .gates .ensures) (layer-there _ (start t .pre) _ _ _ (at t .loop .inv .1) (inside t))
+    rw (rest t) (layer-there _ (start t .pre) _ _ _ (at t .loop .inv .1) (inside t))
 
 enum-known-checked : tie.Need-enum-known-checked Inv-loop μ-loop
 enum-known-checked c = search needs
@@ -74,19 +114,17 @@ enum-known-checked c = search needs
 returns : tie.Need-returns Inv-loop μ-loop
 returns c =
     let told = c .before in
-    let gates = told .before .before .before in
-    let t = gates .before in
+    let done = told .before .before in
+    let t = done .before .before in
     let checked = told .checked .given in
-    sym (layer-refused _ (start t .pre) _ _ _ (at t .loop .inv .1) (inside t) _ (next t) (checked .0 .0) (sym (ap causeOf (checked .1)) ∙ rw (gates .gates .ensures) at (told .before .before .check-gates .ensures)))
+    sym (layer-refused _ (start t .pre) _ _ _ (at t .loop .inv .1) (inside t) _ (next t) (checked .0 .0)
+    (sym (ap causeOf (checked .1)) ∙ rw (rest t) at (done .check-gates .ensures)))
 
 enum-told : tie.Need-enum-told Inv-loop μ-loop
 enum-told c = search needs
 
 add-from : tie.Need-add-from Inv-loop μ-loop
-add-from c =
-    let t = c .before .before .before .before in
-    let few = layer-few _ (start t .pre) _ _ _ (at t .loop .inv .1) (inside t) in
-    omega arith
+add-from c = let n = few (c .before .before .before .before) in omega arith
 
 add-layer : tie.Need-add-layer Inv-loop μ-loop
 add-layer c = search needs
@@ -96,16 +134,18 @@ loop-less c = search needs
 
 loop-again : tie.Need-loop-again Inv-loop μ-loop
 loop-again c =
-    let gates = c .before .before .before in
-    let t = gates .before in (
+    let done = c .before .before in
+    let t = done .before .before in (
       at t .loop .inv .0,
-      layer-legal _ (start t .pre) _ _ _ (at t .loop .inv .1) (inside t) _ (next t) (sym (rw (gates .gates .ensures) at (c .before .before .check-gates .ensures)) ∙ ap causeOf (c .enum-told .given .1)),
+      layer-legal _ (start t .pre) _ _ _ (at t .loop .inv .1) (inside t) _ (next t)
+          (sym (rw (rest t) at (done .check-gates .ensures)) ∙ ap causeOf (c .enum-told .given .1)),
     )
 
 returns-2 : tie.Need-returns-2 Inv-loop μ-loop
 returns-2 c =
-    let l = c .before .before .before .before .before .before .args .circuit .now in
-    sym (checks-end l (c .before .before .before .before .before .before .pre) _ _ _ (c .before .loop .inv .1) (omega (arith, c .loop-test .left, c .before .loop .inv .0)))
+    let at = c .before in
+    let start = at .before .before .before .before .before .before in
+    sym (checks-end (start .args .circuit .now) (start .pre) _ _ _ (at .loop .inv .1) (omega (arith, c .loop-test .left, at .loop .inv .0)))
 
 pub check-layers-spec : {M : Type 1} → statement M
 check-layers-spec =
@@ -113,14 +153,19 @@ check-layers-spec =
     (tie.spec
     Inv-loop
     μ-loop
+    exponents-requires
+    all-gates-requires
     exponent-requires
     width-requires
-    depth-requires
     loop-holds
-    add-exponent
-    exponent-requires-2
+    mul-width
+    shared-slice-read-width
     width-requires-2
-    gates-requires
+    mul-check-gates
+    mul-check-gates-2
+    sub-check-gates
+    part-check-gates-start
+    part-check-gates-end
     check-gates-requires
     enum-known-checked
     returns
