@@ -6,7 +6,7 @@ use mathlib.Core.List.{List}
 use native.Mathlib.Decide.{decLe}
 use native.Mathlib.Omega.{arith}
 use lib.ListN.{length, length-drop, length-take, take, drop, getD, drop-of-length-le, List·getD-eq-default}
-use lib.Seq.{take-nil, getD-take, getD-drop}
+use lib.Seq.{drop-drop, take-nil, getD-take, getD-drop}
 use Rattle.lists.proofs.Parts.{take-most}
 use Rattle.lists.proofs.Buffer.{rest-lent}
 use Rattle.circuit.specs.Limits.{headerWords}
@@ -48,12 +48,12 @@ module _ (c : List ℕ) where
   pub gates-rest : (start : ℕ) → start ≡ min (gatesStart c) (length c) → take (length c - start) (drop start c) ≡ drop (gatesStart c) c
   gates-rest start es = rest-lent c start (length c) refl ∙ ap (λ (a : ℕ). drop a c) es ∙ rest-cut c (gatesStart c)
 
-  pub gates-part : (from count start end : ℕ) → start ≡ min (gatesStart c + 3 * min from (length c)) (length c)
-      → end ≡ min (start + 3 * min count (length c)) (length c) → take (end - start) (drop start c) ≡ gateWords c from count
-  gates-part from count start end es ee =
-      let at : start ≡ min (gatesStart c + 3 * from) (length c) = omega arith in
-      let to : end ≡ min (gatesStart c + 3 * from + 3 * count) (length c) = omega arith in
-      ap₂ (λ (a b : ℕ). take (b - a) (drop a c)) at to ∙ part-cut c (gatesStart c + 3 * from) (3 * count)
+  pub gates-part : (gates : List ℕ) (from count start end : ℕ) → gates ≡ drop (gatesStart c) c → start ≡ min (3 * from) (length gates)
+      → end ≡ min (start + 3 * count) (length gates) → take (end - start) (drop start gates) ≡ gateWords c from count
+  gates-part gates from count start end eg es ee =
+      let to : end ≡ min (3 * from + 3 * count) (length gates) = omega arith in
+      ap₂ (λ (a b : ℕ). take (b - a) (drop a gates)) es to ∙ part-cut gates (3 * from) (3 * count)
+      ∙ ap (take (3 * count)) (ap (drop (3 * from)) eg ∙ drop-drop (3 * from) (gatesStart c) c)
 
   -- layer 0 is one gate
   pub exponent-first : (layer : ℕ) → layer ≡ 0 → 0 ≡ exponentAt c layer

@@ -5,7 +5,7 @@ ghost use Prim.Native.Nat.{_^_, _<_};
 ghost use lib.Dec.{leb};
 ghost use lib.ListN.{length, drop};
 ghost use Rattle.circuit.specs.Limits.{headerWords};
-ghost use Rattle.circuit.specs.Circuit.{primeOf, depth, exponents, exponentAt, widthOf, gatesStart, gateWords, wordCount};
+ghost use Rattle.circuit.specs.Circuit.{primeOf, depth, exponents, exponentAt, widthOf, gatesStart, wordCount};
 ghost use Rattle.circuit.specs.Sized.{Exponents};
 ghost use Rattle.layout.specs.Gates.{GatesBefore, GatesAbove};
 
@@ -108,16 +108,6 @@ pub fn all_gates(circuit: &[u32]) -> &[u32]
     &circuit[start..]
 }
 
-// The words of `count` gates, from gate number `from` on, as many of them as the list has.
-fn gates(circuit: &[u32], from: usize, count: usize) -> &[u32]
-    ensures { λ r. ⌜ now r ≡ gateWords (now (circuit .entry)) from count ⌝ }
-{
-    let all = circuit.len();
-    let start = lists::least(gates_start(circuit) + 3 * lists::least(from, all), all);
-    let end = lists::least(start + 3 * lists::least(count, all), all);
-    &circuit[start..end]
-}
-
 // The words of the gates of the layer above one.
 pub fn gates_above(circuit: &[u32], layer: usize) -> &[u32]
     ensures { λ r. ⌜ GatesAbove (now (circuit .entry)) layer (now r) ⌝ }
@@ -126,9 +116,8 @@ pub fn gates_above(circuit: &[u32], layer: usize) -> &[u32]
         return &circuit[..0];
     }
     let above = layer - 1;
-    gates(
-        circuit,
-        gates_before(circuit, above),
-        width(exponent(circuit, above)),
-    )
+    let gates = all_gates(circuit);
+    let start = lists::least(3 * gates_before(circuit, above), gates.len());
+    let end = lists::least(start + 3 * width(exponent(circuit, above)), gates.len());
+    &gates[start..end]
 }

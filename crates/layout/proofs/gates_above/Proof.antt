@@ -1,15 +1,19 @@
 -- `gates_above` meets its contract: as many gates as the layer is wide, behind those of the layers before it.
 -- Assumes nothing.
-use Prim.Native.Nat.{_-_}
+use Prim.Native.Nat.{_-_, _≤_}
 use mathlib.Core.Path.{ap, _∙_}
 use native.Mathlib.Omega.{arith}
+use Rattle.circuit.specs.Limits.{maxWidth}
 use Rattle.circuit.specs.Circuit.{widthOf}
 use Rattle.circuit.specs.Sized.{LayerOf}
-use Rattle.circuit.proofs.Sized.{exponent-width}
-use Rattle.layout.proofs.Readers.{layer-read}
+use Rattle.circuit.proofs.Sized.{width-small, exponent-width}
+use Rattle.layout.proofs.Readers.{gates-part, layer-read}
 use borrow.Author.Needs.{needs}
 use Rattle.layout.proofs.gates_above.Statement.{statement}
 use Rattle.layout.proofs.gates_above.Tie as tie
+
+small : (w : tie.After-width) → w .width .result ≤ maxWidth
+small w = let s = width-small (w .before .exponent .result) in omega (arith, w .width .ensures)
 
 slice-aggregate-result : tie.Need-slice-aggregate-result
 slice-aggregate-result c = search needs
@@ -17,8 +21,17 @@ slice-aggregate-result c = search needs
 returns : tie.Need-returns
 returns c h some = absurd (omega (arith, some, c .before .if1 .taken))
 
+all-gates-requires : tie.Need-all-gates-requires
+all-gates-requires c κs = search needs
+
 gates-before-requires : tie.Need-gates-before-requires
 gates-before-requires c κs = search needs
+
+mul-least : tie.Need-mul-least
+mul-least c = search needs
+
+least-requires : tie.Need-least-requires
+least-requires c κs = search needs
 
 exponent-requires : tie.Need-exponent-requires
 exponent-requires c κs = search needs
@@ -26,17 +39,39 @@ exponent-requires c κs = search needs
 width-requires : tie.Need-width-requires
 width-requires c κs = search needs
 
-gates-requires : tie.Need-gates-requires
-gates-requires c κs = search needs
+mul-least-2 : tie.Need-mul-least-2
+mul-least-2 c = let s = small c in omega arith
+
+add-least : tie.Need-add-least
+add-least c = let s = small c in omega (arith, c .before .before .least .ensures, c .before .before .before .gates-before .ensures .few)
+
+least-requires-2 : tie.Need-least-requires-2
+least-requires-2 c κs = search needs
+
+mul-result : tie.Need-mul-result
+mul-result c = search needs
+
+sub-result : tie.Need-sub-result
+sub-result c = search needs
+
+part-result-start : tie.Need-part-result-start
+part-result-start c = search needs
+
+part-result-end : tie.Need-part-result-end
+part-result-end c = search needs
 
 returns-2 : tie.Need-returns-2
 returns-2 c h some last =
-    let start = c .before .before .before .before .before .before in
+    let wide = c .before .before in
+    let at = wide .before .before in
+    let all = at .before .before in
+    let start = all .before .before .before in
     let l = start .args .circuit .now in
     let above = start .args .layer - 1 in
     let there : LayerOf l above = record { headed = h .headed; inside = omega arith } in
-    layer-read l above _ _ _ h (omega arith) (c .before .before .before .gates-before .ensures .counted there)
-    (c .before .width .ensures ∙ ap widthOf (c .before .before .exponent .ensures) ∙ exponent-width l above there) (c .gates .ensures)
+    layer-read l above _ _ _ h (omega arith) (at .before .gates-before .ensures .counted there)
+    (wide .width .ensures ∙ ap widthOf (wide .before .exponent .ensures) ∙ exponent-width l above there)
+    (gates-part l _ _ _ _ _ (all .all-gates .ensures) (at .least .ensures) (c .before .least2 .ensures))
 
 pub gates-above-spec : {M : Type 1} → statement M
 gates-above-spec =
@@ -44,8 +79,17 @@ gates-above-spec =
     (tie.spec
     slice-aggregate-result
     returns
+    all-gates-requires
     gates-before-requires
+    mul-least
+    least-requires
     exponent-requires
     width-requires
-    gates-requires
+    mul-least-2
+    add-least
+    least-requires-2
+    mul-result
+    sub-result
+    part-result-start
+    part-result-end
     returns-2)
