@@ -51,17 +51,21 @@ module _ (c input cs first : List ℕ) where
 
     pub all-start : (n : ℕ) → n ≡ layerStart c 1 → BeforeLayer 1 n 0 first
     all-start n e = record {
-      reached = loops.loops-start c legal (Rest 0) n e (saying-all (honest c input) (rounds c) (outputExponent c) cs (h .given .coins ∙ sym (as-many c)), omega (arith, message-words c));
+      reached =
+          loops.loops-start c legal (Rest 0) n e
+          (saying-all (honest c input) (rounds c) (outputExponent c) cs (h .given .coins ∙ sym (as-many c)), omega (arith, message-words c));
       written = refl;
     }
 
     pub layer-starts : (layer n at : ℕ) (buffer : List ℕ) → BeforeLayer layer n at buffer → layer ≤ depth c → BeforeRound layer 0 n at buffer
     layer-starts layer n at buffer b inside = record { reached = loops.layer-starts c legal (Rest at) layer n (b .reached) inside; written = b .written }
 
-    pub layer-ends : (layer round n at : ℕ) (buffer : List ℕ) → BeforeRound layer round n at buffer → 2 * exponentAt c layer + 1 ≤ round → BeforeLayer (layer + 1) n at buffer
+    pub layer-ends : (layer round n at : ℕ) (buffer : List ℕ) → BeforeRound layer round n at buffer → 2 * exponentAt c layer + 1 ≤ round
+        → BeforeLayer (layer + 1) n at buffer
     layer-ends layer round n at buffer b done = record { reached = loops.layer-ends c legal (Rest at) layer round n (b .reached) done; written = b .written }
 
-    pub all-end : (layer n at : ℕ) (buffer : List ℕ) → BeforeLayer layer n at buffer → depth c < layer → (at ≡ messageWords c) × (buffer ≡ over all first)
+    pub all-end : (layer n at : ℕ) (buffer : List ℕ) → BeforeLayer layer n at buffer → depth c < layer
+        → (at ≡ messageWords c) × (buffer ≡ over all first)
     unfolding transcript
     all-end layer n at buffer b out =
         let end = loops.loops-end c legal (Rest at) layer n (b .reached) out in
@@ -117,7 +121,8 @@ module _ (c input cs first : List ℕ) where
           }
 
 -- THE INNER LOOP starts from the buffer as the outer one left it
-module _ (c input cs first : List ℕ) (h : Provable c input cs first) (layer n at : ℕ) (buffer : List ℕ) (b : BeforeLayer c input cs first layer n at buffer) where
+module _ (c input cs first : List ℕ) (h : Provable c input cs first) (layer n at : ℕ) (buffer : List ℕ)
+    (b : BeforeLayer c input cs first layer n at buffer) where
   inside : at ≤ messageWords c
   inside = let rest = b .reached .left .1 in omega arith
 
@@ -138,10 +143,13 @@ module _ (c input cs first : List ℕ) (h : Provable c input cs first) (layer n 
         written = b .written ∙ sym (ap (over ms) (b .written) ∙ over-over ms ms first (le-refl (length ms)));
       }
 
-  pub given-back : (round m at′ : ℕ) (after : List ℕ) → at ≤ at′ → BeforeRound c input cs buffer layer round m at′ after → BeforeRound c input cs first layer round m at′ after
+  pub given-back : (round m at′ : ℕ) (after : List ℕ) → at ≤ at′ → BeforeRound c input cs buffer layer round m at′ after
+      → BeforeRound c input cs first layer round m at′ after
   given-back round m at′ after low r =
       let all : List ℕ = transcript c (honest c input) cs in
       record {
         reached = r .reached;
-        written = r .written ∙ ap (over (take at′ all)) (b .written) ∙ over-over (take at all) (take at′ all) first (omega (arith, length-take at all, length-take at′ all));
+        written =
+            r .written ∙ ap (over (take at′ all)) (b .written)
+            ∙ over-over (take at all) (take at′ all) first (omega (arith, length-take at all, length-take at′ all));
       }

@@ -29,7 +29,8 @@ module _ (c : List ℕ) (first a : ℕ) where
   pub sum-first : first ≡ so (1 - 1)
   sum-first = omega (arith, sum-nil)
 
-  pub sum-turn : (i total k : ℕ) → LegalCircuit c → 1 ≤ i → i ≤ depth c → total ≡ so (i - 1) → k ≡ exponentAt c i → total + (a * k + 1) ≡ so (i + 1 - 1)
+  pub sum-turn : (i total k : ℕ) → LegalCircuit c → 1 ≤ i → i ≤ depth c → total ≡ so (i - 1) → k ≡ exponentAt c i
+      → total + (a * k + 1) ≡ so (i + 1 - 1)
   sum-turn zero total k h low n e ek = absurd (omega arith)
   sum-turn (suc l) total k h low n e ek =
       let there : suc l - 1 ≡ l = omega arith in

@@ -109,7 +109,8 @@ module _ (c : List ℕ) (layer round : ℕ) (past : List ℕ) (h : AtRound c (pl
         let eu : take (start + first - start) (drop start past) ≡ take k xs =
         ap₂ (λ (n i : ℕ). take n (drop i past)) cut at ∙ least-front (s .own) xs first fewer ∙ ap (λ (n : ℕ). take n xs) ek in
         let ev : drop (start + first) past ≡ drop k xs =
-        ap (λ (i : ℕ). drop (i + first) past) at ∙ sym (drop-drop first (layerStart c layer) past) ∙ least-rest (s .own) xs first fewer ∙ ap (λ (n : ℕ). drop n xs) ek in
+        ap (λ (i : ℕ). drop (i + first) past) at ∙ sym (drop-drop first (layerStart c layer) past) ∙ least-rest (s .own) xs first fewer
+        ∙ ap (λ (n : ℕ). drop n xs) ek in
         record {
           above = ea;
           own = ek;

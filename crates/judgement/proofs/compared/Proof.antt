@@ -3,6 +3,7 @@
 use Prim.Native.Nat.{ℕ}
 use mathlib.Core.Path.{_≡_, sym, ap, _∙_}
 use mathlib.Core.Bool.{true}
+use mathlib.Core.List.{List}
 use Rattle.algebra.specs.Numbers.{words}
 use Rattle.algebra.specs.Polynomial.{valueAt}
 use Rattle.field.specs.Modulus.{modulus}
@@ -17,17 +18,27 @@ use Rattle.judgement.proofs.compared.Statement.{statement}
 use Rattle.judgement.proofs.compared.Tie as tie
 
 -- where the message has its two values, modulo the circuit's prime
-abbrev start : tie.After-value-at2 → tie.Start
+abbrev Valued : Type 0
+Valued = tie.After-value-at2
+
+abbrev start : Valued → tie.Start
 start v = v .before .before .before .before .before .before .before
 
-prime : (v : tie.After-value-at2) → LegalCircuit (start v .args .circuit .now) → modulus (v .before .before .of .result) ≡ primeOf (start v .args .circuit .now)
-prime v h = prime-modulus (start v .args .circuit .now) h _ _ (v .before .before .before .prime .ensures) (v .before .before .of .ensures)
+module _ (v : Valued) (h : LegalCircuit (start v .args .circuit .now)) where
+  abbrev l : List ℕ
+  l = start v .args .circuit .now
 
-at-zero : (v : tie.After-value-at2) → LegalCircuit (start v .args .circuit .now) → v .before .value-at .result ≡ messageAt (start v .args .circuit .now) (start v .args .message .now) 0
-at-zero v h = v .before .value-at .ensures ∙ ap (λ (p : ℕ). valueAt (words p) (start v .args .message .now) 0) (prime v h)
+  abbrev m : List ℕ
+  m = start v .args .message .now
 
-at-one : (v : tie.After-value-at2) → LegalCircuit (start v .args .circuit .now) → v .value-at2 .result ≡ messageAt (start v .args .circuit .now) (start v .args .message .now) 1
-at-one v h = v .value-at2 .ensures ∙ ap (λ (p : ℕ). valueAt (words p) (start v .args .message .now) 1) (prime v h)
+  prime : modulus (v .before .before .of .result) ≡ primeOf l
+  prime = prime-modulus l h _ _ (v .before .before .before .prime .ensures) (v .before .before .of .ensures)
+
+  at-zero : v .before .value-at .result ≡ messageAt l m 0
+  at-zero = v .before .value-at .ensures ∙ ap (λ (p : ℕ). valueAt (words p) m 0) prime
+
+  at-one : v .value-at2 .result ≡ messageAt l m 1
+  at-one = v .value-at2 .ensures ∙ ap (λ (p : ℕ). valueAt (words p) m 1) prime
 
 prime-requires : tie.Need-prime-requires
 prime-requires c κs = search needs
@@ -61,7 +72,8 @@ returns-2 : tie.Need-returns-2
 returns-2 c h =
     let v = c .before .before .before in
     let a = start v .args in
-    compared-sum _ (place (a .layer) (a .round)) (a .past .now) _ _ _ _ (at-zero v (h .legal)) (at-one v (h .legal)) (sym (c .before .before .is-line .ensures) ∙ search needs)
+    compared-sum _ (place (a .layer) (a .round)) (a .past .now) _ _ _ _ (at-zero v (h .legal)) (at-one v (h .legal))
+    (sym (c .before .before .is-line .ensures) ∙ search needs)
     (c .add .ensures ∙ ap (λ (p : ℕ). words p .add (v .before .value-at .result) (v .value-at2 .result)) (prime v (h .legal)))
 
 pub compared-spec : {M : Type 1} → statement M

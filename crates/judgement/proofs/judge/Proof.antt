@@ -61,13 +61,15 @@ returns-4 : tie.Need-returns-4
 returns-4 c h =
     let d = c .before .before in
     let e = d .before .before in
-    sym (judge-line _ _ _ _ _ (fits (sized (e .before))) (small e) (λ q. d .if3 .left (d .before .compared .ensures h ∙ q)) (sym (c .before .is-line .ensures) ∙ search needs))
+    sym (judge-line _ _ _ _ _ (fits (sized (e .before))) (small e) (λ q. d .if3 .left (d .before .compared .ensures h ∙ q))
+    (sym (c .before .is-line .ensures) ∙ search needs))
 
 returns-5 : tie.Need-returns-5
 returns-5 c h =
     let d = c .before .before in
     let e = d .before .before in
-    sym (judge-sum _ _ _ _ _ (fits (sized (e .before))) (small e) (λ q. d .if3 .left (d .before .compared .ensures h ∙ q)) (sym (c .before .is-line .ensures) ∙ search needs))
+    sym (judge-sum _ _ _ _ _ (fits (sized (e .before))) (small e) (λ q. d .if3 .left (d .before .compared .ensures h ∙ q))
+    (sym (c .before .is-line .ensures) ∙ search needs))
 
 pub judge-spec : {M : Type 1} → statement M
 judge-spec =

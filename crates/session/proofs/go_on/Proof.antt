@@ -6,7 +6,7 @@ use mathlib.Core.Bool.{true}
 use native.Mathlib.Omega.{arith}
 use Rattle.circuit.specs.Circuit.{depth}
 use Rattle.circuit.proofs.Loading.{not-true, not-false}
-use Rattle.protocol.specs.Rounds.{place, isLine}
+use Rattle.protocol.specs.Rounds.{Place, place, isLine}
 use Rattle.session.proofs.Records.{small-round, small-layer, goes-round, goes-layer, goes-accepted, goes-refused}
 use borrow.Author.Needs.{needs}
 use Rattle.session.proofs.go_on.Statement.{statement}
@@ -16,14 +16,17 @@ use Rattle.session.proofs.go_on.Tie as tie
 abbrev start : tie.After-is-line → tie.Start
 start i = i .before .before .before .before .before .before
 
+abbrev here : tie.After-is-line → Place
+here i = place (start i .args .session .layer) (start i .args .session .round)
+
 -- behind its line, and behind the last layer's
-line : (e : tie.Else1) → isLine (start (e .before) .args .circuit .now) (place (start (e .before) .args .session .layer) (start (e .before) .args .session .round)) ≡ true
+line : (e : tie.Else1) → isLine (start (e .before) .args .circuit .now) (here (e .before)) ≡ true
 line e = sym (e .before .is-line .ensures) ∙ not-false (e .if1 .left)
 
 abbrev first : tie.Else2 → tie.Else1
 first l = l .before .before .before
 
-last : (l : tie.Else2) → ¬ (start (first l .before) .args .session .layer < depth (start (first l .before) .args .circuit .now))
+last : (l : tie.Else2) → ¬ (here (first l .before) .layer < depth (start (first l .before) .args .circuit .now))
 last l more = omega (arith, more, l .if2 .left, l .before .depth .ensures .0)
 
 cast-is-line : tie.Need-cast-is-line
@@ -44,8 +47,8 @@ went-on-requires c κs = search needs
 returns : tie.Need-returns
 returns c =
     let i = c .before .before .before in
-    goes-round _ _ _ _ (start i .pre) (start i .args .coin) (start i .args .claim) (sym (i .is-line .ensures) ∙ not-true (c .before .before .if1 .taken)) _ (c .went-on .ensures .0)
-    (c .went-on .ensures .1)
+    let sum = sym (i .is-line .ensures) ∙ not-true (c .before .before .if1 .taken) in
+    goes-round _ _ _ _ (start i .pre) (start i .args .coin) (start i .args .claim) sum _ (c .went-on .ensures .0) (c .went-on .ensures .1)
 
 cast-if2 : tie.Need-cast-if2
 cast-if2 c = search needs
@@ -64,7 +67,8 @@ returns-2 c =
     let more = c .before .before in
     let e = more .before .before .before in
     let a = start (e .before) .args in
-    goes-layer _ _ _ _ (start (e .before) .pre) (a .coin) (a .claim) (line e) (omega (arith, more .if2 .taken, more .before .depth .ensures .0)) _ (c .went-on2 .ensures .0) (c .went-on2 .ensures .1)
+    goes-layer _ _ _ _ (start (e .before) .pre) (a .coin) (a .claim) (line e) (omega (arith, more .if2 .taken, more .before .depth .ensures .0))
+    _ (c .went-on2 .ensures .0) (c .went-on2 .ensures .1)
 
 input-agrees-requires : tie.Need-input-agrees-requires
 input-agrees-requires c κs = search needs

@@ -2,6 +2,7 @@
 -- Assumes nothing.
 use Prim.Native.Nat.{ℕ, _+_, _<_}
 use mathlib.Core.Path.{_≡_, refl, sym, ap, _∙_}
+use mathlib.Core.List.{List}
 use native.Mathlib.Omega.{arith}
 use lib.ListN.{length, take, getD}
 use lib.Seq.{length-take-le}
@@ -9,7 +10,7 @@ use Rattle.algebra.specs.Numbers.{words}
 use Rattle.algebra.specs.Polynomial.{valueAt}
 use Rattle.refusal.specs.Number.{causeOf}
 use Rattle.circuit.proofs.Layers.{prime-modulus}
-use Rattle.protocol.specs.Rounds.{place, layerStart, AtRound}
+use Rattle.protocol.specs.Rounds.{Place, place, layerStart, AtRound}
 use Rattle.session.proofs.Records.{own-start, legal}
 use Rattle.session.proofs.Coming.{coins-few, coin-inside, at-round, refused-open, passed-open}
 use borrow.Author.Needs.{needs}
@@ -17,21 +18,33 @@ use Rattle.session.proofs.step_open.Statement.{statement}
 use Rattle.session.proofs.step_open.Tie as tie
 
 -- where the coins before the layer are counted: with the round, those before the message
-abbrev start : tie.After-coins-before → tie.Start
+abbrev Numbered : Type 0
+Numbered = tie.After-coins-before
+
+abbrev start : Numbered → tie.Start
 start n = n .before .before .before .before .before .before .before
 
-abbrev number : tie.After-coins-before → ℕ
-number n = n .coins-before .result + start n .args .session .round
+module _ (n : Numbered) where
+  abbrev l : List ℕ
+  l = start n .args .circuit .now
 
-number-is : (n : tie.After-coins-before) → number n ≡ layerStart (start n .args .circuit .now) (start n .args .session .layer) + start n .args .session .round
-number-is n = ap (λ (i : ℕ). i + start n .args .session .round) (n .coins-before .ensures (own-start _ _ _ _ (start n .pre)))
+  abbrev cs : List ℕ
+  cs = start n .args .coins .now
 
-inside : (n : tie.After-coins-before) → number n < length (start n .args .coins .now)
-inside n = coin-inside _ _ _ _ (start n .pre) (number n) (number-is n)
+  abbrev here : Place
+  here = place (start n .args .session .layer) (start n .args .session .round)
 
-spot : (n : tie.After-coins-before)
-    → AtRound (start n .args .circuit .now) (place (start n .args .session .layer) (start n .args .session .round)) (length (take (number n) (start n .args .coins .now)))
-spot n = at-round _ _ _ _ (start n .pre) (number n) (number-is n)
+  abbrev number : ℕ
+  number = n .coins-before .result + here .round
+
+  number-is : number ≡ layerStart l (here .layer) + here .round
+  number-is = ap (λ (i : ℕ). i + here .round) (n .coins-before .ensures (own-start _ _ _ _ (start n .pre)))
+
+  inside : number < length cs
+  inside = coin-inside _ _ _ _ (start n .pre) number number-is
+
+  spot : AtRound l here (length (take number cs))
+  spot = at-round _ _ _ _ (start n .pre) number number-is
 
 cast-layer : tie.Need-cast-layer
 cast-layer c = search needs
@@ -49,7 +62,7 @@ slice-aggregate-judge : tie.Need-slice-aggregate-judge
 slice-aggregate-judge c =
     let n = c .before in
     let there = inside n in
-    sym (length-take-le (number n) (start n .args .coins .now) (omega arith))
+    sym (length-take-le (number n) (cs n) (omega arith))
 
 judge-requires : tie.Need-judge-requires
 judge-requires c κs = search needs
@@ -65,7 +78,8 @@ returns c =
     let judged = c .before .before .before .before in
     let n = judged .before .before in
     let told = c .before .before .judged .given in
-    refused-open _ _ _ _ (start n .pre) (number n) (number-is n) (start n .args .message .now) (told .0 .0) (sym (ap causeOf (told .1)) ∙ judged .judge .ensures (spot n)) _ refl (c .ended .ensures)
+    refused-open _ _ _ _ (start n .pre) (number n) (number-is n) (start n .args .message .now) (told .0 .0)
+    (sym (ap causeOf (told .1)) ∙ judged .judge .ensures (spot n)) _ refl (c .ended .ensures)
 
 enum-told : tie.Need-enum-told
 enum-told c = search needs
@@ -97,10 +111,11 @@ returns-2 c =
     let told = value .before .before .before .before in
     let judged = told .before .before in
     let n = judged .before .before in
-    let a = start n .args in
+    let m = start n .args .message .now in
     let f = prime-modulus _ (legal _ _ _ _ (start n .pre)) _ _ (value .before .before .prime .ensures) (value .before .of .ensures) in
-    let y = value .value-at .ensures ∙ ap (λ (p : ℕ). valueAt (words p) (a .message .now) (getD (a .coins .now) (number n) 0)) f in
-    passed-open _ _ _ _ (start n .pre) (number n) (number-is n) (a .message .now) (sym (judged .judge .ensures (spot n)) ∙ ap causeOf (told .enum-told .given .1)) _ y _ (c .go-on .ensures)
+    let y = value .value-at .ensures ∙ ap (λ (p : ℕ). valueAt (words p) m (getD (cs n) (number n) 0)) f in
+    let passed = sym (judged .judge .ensures (spot n)) ∙ ap causeOf (told .enum-told .given .1) in
+    passed-open _ _ _ _ (start n .pre) (number n) (number-is n) m passed _ y _ (c .go-on .ensures)
 
 pub step-open-spec : {M : Type 1} → statement M
 step-open-spec =

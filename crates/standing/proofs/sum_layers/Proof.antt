@@ -20,6 +20,10 @@ Inv-loop circuit first a layer sum₀ i₀ sum i =
 abbrev μ-loop : tie.MeasureT-loop
 μ-loop circuit first a layer sum₀ i₀ sum i = layer - i
 
+-- where a layer's exponent is read: its part is small
+part : (k : tie.After-exponent Inv-loop μ-loop) → k .before .before .before .before .before .args .a * k .exponent .result ≤ 30064771072
+part k = times-small _ (k .exponent .result) (k .before .before .before .before .before .pre) (search needs)
+
 add-if1 : tie.Need-add-if1 Inv-loop μ-loop
 add-if1 c = search needs
 
@@ -30,7 +34,9 @@ returns c h =
     absurd (omega (arith, c .if1 .taken, low, last))
 
 loop-holds : tie.Need-loop-holds Inv-loop μ-loop
-loop-holds c = let start = c .before .before in (search needs, search needs, search needs, λ h. (h .first, sum-first (start .args .circuit .now) (start .args .first) (start .args .a)))
+loop-holds c =
+    let a = c .before .before .args in
+    (search needs, search needs, search needs, λ h. (h .first, sum-first (a .circuit .now) (a .first) (a .a)))
 
 exponent-requires : tie.Need-exponent-requires Inv-loop μ-loop
 exponent-requires c κs = search needs
@@ -40,17 +46,17 @@ cast-sum c = search needs
 
 mul-sum : tie.Need-mul-sum Inv-loop μ-loop
 mul-sum c =
-    let more = times-small (c .before .before .before .before .before .args .a) (c .exponent .result) (c .before .before .before .before .before .pre) (search needs) in
+    let more = part c in
     omega arith
 
 add-sum : tie.Need-add-sum Inv-loop μ-loop
 add-sum c =
-    let more = times-small (c .before .before .before .before .before .args .a) (c .exponent .result) (c .before .before .before .before .before .pre) (search needs) in
+    let more = part c in
     omega arith
 
 add-sum-2 : tie.Need-add-sum-2 Inv-loop μ-loop
 add-sum-2 c =
-    let more = times-small (c .before .before .before .before .before .args .a) (c .exponent .result) (c .before .before .before .before .before .pre) (search needs) in
+    let more = part c in
     omega (arith, c .before .before .loop .inv .2, c .before .before .loop .inv .1)
 
 add-i : tie.Need-add-i Inv-loop μ-loop
@@ -64,7 +70,7 @@ loop-again c =
     let at = c .before .before in
     let start = at .before .before .before in
     let l = start .args .circuit .now in
-    let more = times-small (start .args .a) (c .exponent .result) (start .pre) (search needs) in (
+    let more = part c in (
       search needs,
       search needs,
       omega (arith, more, at .loop .inv .2),

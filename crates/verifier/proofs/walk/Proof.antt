@@ -18,7 +18,8 @@ use Rattle.protocol.specs.Rounds.{Place, place, AtRound}
 use Rattle.protocol.specs.Judge.{messageLength}
 use Rattle.circuit.proofs.Layers.{prime-modulus}
 use Rattle.circuit.proofs.Loading.{legal-lists}
-use Rattle.verifier.proofs.Walking.{BeforeLayer, BeforeRound, first-layer, walk-starts, layer-starts, layer-ends, walk-ends, coin-there, words-there, round-place, round-passes, round-refuses}
+use Rattle.verifier.proofs.Walking.{BeforeLayer, BeforeRound, first-layer, walk-starts, layer-starts, layer-ends, walk-ends}
+use Rattle.verifier.proofs.Walking.{coin-there, words-there, round-place, round-passes, round-refuses}
 use Rattle.verifier.proofs.walk.Statement.{statement}
 use Rattle.verifier.proofs.walk.Tie as tie
 
