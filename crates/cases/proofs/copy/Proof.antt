@@ -10,15 +10,6 @@ use borrow.Author.Needs.{needs}
 use Rattle.cases.proofs.copy.Statement.{statement}
 use Rattle.cases.proofs.copy.Tie as tie
 
-least-requires : tie.Need-least-requires
-least-requires c κs = search needs
-
-put-requires : tie.Need-put-requires
-put-requires c κs = search needs
-
-same-length : tie.Need-same-length
-same-length c = search needs
-
 returns : tie.Need-returns
 returns c =
     let put = c .before .before .put in
@@ -30,4 +21,4 @@ returns c =
     ((short, sym (length-take-le (n .result) (put .last .0) short)), (n .ensures, put .ensures))
 
 pub copy-spec : {M : Type 1} → statement M
-copy-spec = tie.close (tie.spec least-requires put-requires same-length returns)
+copy-spec = tie.close (tie.spec (λ c κs. search needs) (λ c κs. search needs) (λ c. search needs) returns)

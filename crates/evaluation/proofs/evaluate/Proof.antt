@@ -49,25 +49,10 @@ counted v = v .before .before
 front : (v : tie.After-all-values) → length (take (total (counted v)) (v .all-values .result)) ≡ total (counted v)
 front v = length-take-le _ _ (omega (arith, few (counted v), v .all-values .ensures .size))
 
-check-lists-requires : tie.Need-check-lists-requires
-check-lists-requires c κs = search needs
-
-enum-known-checked : tie.Need-enum-known-checked
-enum-known-checked c = search needs
-
 returns : tie.Need-returns
 returns c =
     let told = c .before .checked .given in
     left-lists _ _ _ (told .0 .0) (sym (ap causeOf (told .1)) ∙ c .before .before .before .check-lists .ensures)
-
-enum-told : tie.Need-enum-told
-enum-told c = search needs
-
-depth-requires : tie.Need-depth-requires
-depth-requires c κs = search needs
-
-gates-before-requires : tie.Need-gates-before-requires
-gates-before-requires c κs = search needs
 
 add-total : tie.Need-add-total
 add-total c = let most = few c in omega arith
@@ -88,15 +73,6 @@ array-share-prefix-values c =
 slice-aggregate-put : tie.Need-slice-aggregate-put
 slice-aggregate-put c = sym (front (c .before .before))
 
-put-requires : tie.Need-put-requires
-put-requires c κs = search needs
-
-array-read-t20 : tie.Need-array-read-t20
-array-read-t20 c = search needs
-
-same-length : tie.Need-same-length
-same-length c = search needs
-
 returns-3 : tie.Need-returns-3
 returns-3 c =
     let v = c .before .before .before .before .before in
@@ -108,18 +84,6 @@ pub evaluate-spec : {M : Type 1} → statement M
 evaluate-spec =
     tie.close
     (tie.spec
-    check-lists-requires
-    enum-known-checked
-    returns
-    enum-told
-    depth-requires
-    gates-before-requires
-    add-total
-    returns-2
-    all-values-requires
-    array-share-prefix-values
-    slice-aggregate-put
-    put-requires
-    array-read-t20
-    same-length
+    (λ c κs. search needs) (λ c. search needs) returns (λ c. search needs) (λ c κs. search needs) (λ c κs. search needs) add-total returns-2
+    all-values-requires array-share-prefix-values slice-aggregate-put (λ c κs. search needs) (λ c. search needs) (λ c. search needs)
     returns-3)

@@ -9,12 +9,6 @@ use borrow.Author.Needs.{needs}
 use Rattle.evaluation.proofs.gate_value.Statement.{statement}
 use Rattle.evaluation.proofs.gate_value.Tie as tie
 
-add-requires : tie.Need-add-requires
-add-requires c κs = search needs
-
-mul-requires : tie.Need-mul-requires
-mul-requires c κs = search needs
-
 returns : tie.Need-returns
 returns c =
     let a = c .before .before .args in
@@ -29,4 +23,4 @@ returns-3 : tie.Need-returns-3
 returns-3 c = sym (operate-other _ (c .before .args .kind) _ _ (c .match .rest .0 .1) (c .match .rest .1))
 
 pub gate-value-spec : {M : Type 1} → statement M
-gate-value-spec = tie.close (tie.spec add-requires mul-requires returns returns-2 returns-3)
+gate-value-spec = tie.close (tie.spec (λ c κs. search needs) (λ c κs. search needs) returns returns-2 returns-3)

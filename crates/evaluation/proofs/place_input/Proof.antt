@@ -9,21 +9,6 @@ use Rattle.lists.proofs.Buffer.{over-whole}
 use Rattle.evaluation.proofs.place_input.Statement.{statement}
 use Rattle.evaluation.proofs.place_input.Tie as tie
 
-mul-values : tie.Need-mul-values
-mul-values c = search needs
-
-sub-put : tie.Need-sub-put
-sub-put c = search needs
-
-part-values-start : tie.Need-part-values-start
-part-values-start c = search needs
-
-part-values-end : tie.Need-part-values-end
-part-values-end c = search needs
-
-put-requires : tie.Need-put-requires
-put-requires c κs = search needs
-
 returns : tie.Need-returns
 returns c =
     let a = c .before .before .before .before .args in
@@ -34,9 +19,4 @@ pub place-input-spec : {M : Type 1} → statement M
 place-input-spec =
     tie.close
     (tie.spec
-    mul-values
-    sub-put
-    part-values-start
-    part-values-end
-    put-requires
-    returns)
+    (λ c. search needs) (λ c. search needs) (λ c. search needs) (λ c. search needs) (λ c κs. search needs) returns)

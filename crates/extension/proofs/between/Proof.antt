@@ -8,15 +8,6 @@ use borrow.Author.Needs.{needs}
 use Rattle.extension.proofs.between.Statement.{statement}
 use Rattle.extension.proofs.between.Tie as tie
 
-sub-requires : tie.Need-sub-requires
-sub-requires c κs = search needs
-
-mul-requires : tie.Need-mul-requires
-mul-requires c κs = search needs
-
-add-requires : tie.Need-add-requires
-add-requires c κs = search needs
-
 returns : tie.Need-returns
 returns c =
     let a = c .before .before .before .args in
@@ -26,4 +17,4 @@ returns c =
     c .add .ensures ∙ ap (N .add (a .low)) product ∙ by-slope (modulus (a .f)) (omega arith) (a .z) (a .low) (a .high)
 
 pub between-spec : {M : Type 1} → statement M
-between-spec = tie.close (tie.spec sub-requires mul-requires add-requires returns)
+between-spec = tie.close (tie.spec (λ c κs. search needs) (λ c κs. search needs) (λ c κs. search needs) returns)

@@ -40,33 +40,12 @@ module _ (v : Valued) (h : LegalCircuit (start v .args .circuit .now)) where
   at-one : v .value-at2 .result ≡ messageAt l m 1
   at-one = v .value-at2 .ensures ∙ ap (λ (p : ℕ). valueAt (words p) m 1) prime
 
-prime-requires : tie.Need-prime-requires
-prime-requires c κs = search needs
-
-of-requires : tie.Need-of-requires
-of-requires c κs = search needs
-
-value-at-requires : tie.Need-value-at-requires
-value-at-requires c κs = search needs
-
-value-at-requires-2 : tie.Need-value-at-requires-2
-value-at-requires-2 c κs = search needs
-
-is-line-requires : tie.Need-is-line-requires
-is-line-requires c κs = search needs
-
-line-claim-requires : tie.Need-line-claim-requires
-line-claim-requires c κs = search needs
-
 returns : tie.Need-returns
 returns c h =
     let v = c .before .before .before in
     let a = start v .args in
     let line : isLine (a .circuit .now) (place (a .layer) (a .round)) ≡ true = sym (c .before .before .is-line .ensures) ∙ search needs in
     compared-line _ _ _ _ _ _ _ (at-zero v (h .legal)) (at-one v (h .legal)) line (c .line-claim .ensures (at-line _ _ _ _ h line))
-
-add-requires : tie.Need-add-requires
-add-requires c κs = search needs
 
 returns-2 : tie.Need-returns-2
 returns-2 c h =
@@ -80,12 +59,5 @@ pub compared-spec : {M : Type 1} → statement M
 compared-spec =
     tie.close
     (tie.spec
-    prime-requires
-    of-requires
-    value-at-requires
-    value-at-requires-2
-    is-line-requires
-    line-claim-requires
-    returns
-    add-requires
-    returns-2)
+    (λ c κs. search needs) (λ c κs. search needs) (λ c κs. search needs) (λ c κs. search needs) (λ c κs. search needs)
+    (λ c κs. search needs) returns (λ c κs. search needs) returns-2)

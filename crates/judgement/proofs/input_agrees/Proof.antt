@@ -16,42 +16,12 @@ use borrow.Author.Needs.{needs}
 use Rattle.judgement.proofs.input_agrees.Statement.{statement}
 use Rattle.judgement.proofs.input_agrees.Tie as tie
 
-depth-requires : tie.Need-depth-requires
-depth-requires c κs = search needs
-
-add-standing-point : tie.Need-add-standing-point
-add-standing-point c = search needs
-
-standing-point-requires : tie.Need-standing-point-requires
-standing-point-requires c κs = search needs
-
-exponent-requires : tie.Need-exponent-requires
-exponent-requires c κs = search needs
-
-cast-least : tie.Need-cast-least
-cast-least c = search needs
-
-least-requires : tie.Need-least-requires
-least-requires c κs = search needs
-
-prime-requires : tie.Need-prime-requires
-prime-requires c κs = search needs
-
-of-requires : tie.Need-of-requires
-of-requires c κs = search needs
-
-array-share-prefix-point : tie.Need-array-share-prefix-point
-array-share-prefix-point c = search needs
-
 slice-aggregate-extend : tie.Need-slice-aggregate-extend
 slice-aggregate-extend c =
     let point = c .before .before .before .before .before .standing-point in
     let ok = point .ok in
     let size : length (point .result) ≡ rowLength = search needs in
     sym (length-take-le _ _ (omega (arith, size, c .before .before .before .least .ensures)))
-
-extend-requires : tie.Need-extend-requires
-extend-requires c κs = search needs
 
 returns : tie.Need-returns
 returns c h =
@@ -72,15 +42,5 @@ pub input-agrees-spec : {M : Type 1} → statement M
 input-agrees-spec =
     tie.close
     (tie.spec
-    depth-requires
-    add-standing-point
-    standing-point-requires
-    exponent-requires
-    cast-least
-    least-requires
-    prime-requires
-    of-requires
-    array-share-prefix-point
-    slice-aggregate-extend
-    extend-requires
-    returns)
+    (λ c κs. search needs) (λ c. search needs) (λ c κs. search needs) (λ c κs. search needs) (λ c. search needs) (λ c κs. search needs)
+    (λ c κs. search needs) (λ c κs. search needs) (λ c. search needs) slice-aggregate-extend (λ c κs. search needs) returns)

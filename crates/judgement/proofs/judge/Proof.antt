@@ -31,31 +31,16 @@ below w = sym (ap (λ (p : ℕ). allBelow p (start (sized w) .args .message .now
 small : (e : tie.Else2) → allBelow (primeOf (start (sized (e .before)) .args .circuit .now)) (start (sized (e .before)) .args .message .now) ≡ true
 small e = below (e .before) ∙ not-false (e .if2 .left)
 
-message-length-requires : tie.Need-message-length-requires
-message-length-requires c κs = search needs
-
 returns : tie.Need-returns
 returns c h = sym (judge-length _ _ _ _ _ (λ e. c .if1 .taken (e ∙ sym (c .before .message-length .ensures))))
 
-prime-requires : tie.Need-prime-requires
-prime-requires c κs = search needs
-
-all-below-requires : tie.Need-all-below-requires
-all-below-requires c κs = search needs
-
 returns-2 : tie.Need-returns-2
 returns-2 c h = let w = c .before in sym (judge-word _ _ _ _ _ (fits (sized w)) (below w ∙ not-true (c .if2 .taken)))
-
-compared-requires : tie.Need-compared-requires
-compared-requires c κs = search needs
 
 returns-3 : tie.Need-returns-3
 returns-3 c h =
     let e = c .before .before in
     sym (judge-passes _ _ _ _ _ (fits (sized (e .before))) (small e) (sym (c .before .compared .ensures h) ∙ c .if3 .taken))
-
-is-line-requires : tie.Need-is-line-requires
-is-line-requires c κs = search needs
 
 returns-4 : tie.Need-returns-4
 returns-4 c h =
@@ -75,13 +60,5 @@ pub judge-spec : {M : Type 1} → statement M
 judge-spec =
     tie.close
     (tie.spec
-    message-length-requires
-    returns
-    prime-requires
-    all-below-requires
-    returns-2
-    compared-requires
-    returns-3
-    is-line-requires
-    returns-4
-    returns-5)
+    (λ c κs. search needs) returns (λ c κs. search needs) (λ c κs. search needs) returns-2 (λ c κs. search needs) returns-3
+    (λ c κs. search needs) returns-4 returns-5)

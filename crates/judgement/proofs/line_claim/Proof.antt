@@ -19,35 +19,11 @@ fits s =
     let size : length (s .at-round .result .point) ≡ rowLength = search needs in
     omega (arith, size, s .at-round .ensures .within .above)
 
-exponent-requires : tie.Need-exponent-requires
-exponent-requires c κs = search needs
-
-cast-round : tie.Need-cast-round
-cast-round c = search needs
-
-mul-round : tie.Need-mul-round
-mul-round c = search needs
-
-at-round-requires : tie.Need-at-round-requires
-at-round-requires c κs = search needs
-
-prime-requires : tie.Need-prime-requires
-prime-requires c κs = search needs
-
-of-requires : tie.Need-of-requires
-of-requires c κs = search needs
-
-gates-above-requires : tie.Need-gates-above-requires
-gates-above-requires c κs = search needs
-
 array-share-prefix-point : tie.Need-array-share-prefix-point
 array-share-prefix-point c = let room = fits (c .before .before .before .before .before .before) in omega arith
 
 slice-aggregate-combined : tie.Need-slice-aggregate-combined
 slice-aggregate-combined c = sym (length-take-le _ _ (fits (c .before .before .before .before .before .before .before)))
-
-combined-requires : tie.Need-combined-requires
-combined-requires c κs = search needs
 
 returns : tie.Need-returns
 returns c h =
@@ -65,14 +41,5 @@ pub line-claim-spec : {M : Type 1} → statement M
 line-claim-spec =
     tie.close
     (tie.spec
-    exponent-requires
-    cast-round
-    mul-round
-    at-round-requires
-    prime-requires
-    of-requires
-    gates-above-requires
-    array-share-prefix-point
-    slice-aggregate-combined
-    combined-requires
-    returns)
+    (λ c κs. search needs) (λ c. search needs) (λ c. search needs) (λ c κs. search needs) (λ c κs. search needs) (λ c κs. search needs)
+    (λ c κs. search needs) array-share-prefix-point slice-aggregate-combined (λ c κs. search needs) returns)

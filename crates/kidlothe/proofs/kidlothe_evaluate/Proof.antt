@@ -8,21 +8,6 @@ use borrow.Author.Needs.{needs}
 use Rattle.kidlothe.proofs.kidlothe_evaluate.Statement.{statement}
 use Rattle.kidlothe.proofs.kidlothe_evaluate.Tie as tie
 
-evaluate-requires : tie.Need-evaluate-requires
-evaluate-requires c κs = search needs
-
-enum-known-evaluated : tie.Need-enum-known-evaluated
-enum-known-evaluated c = search needs
-
-enum-known-evaluated-2 : tie.Need-enum-known-evaluated-2
-enum-known-evaluated-2 c = search needs
-
-number-requires : tie.Need-number-requires
-number-requires c κs = search needs
-
-same-length : tie.Need-same-length
-same-length c = search needs
-
 returns : tie.Need-returns
 returns c =
     let call = c .before .before .before .before .before .evaluate in
@@ -30,9 +15,6 @@ returns c =
       answer = ap plainEvaluation (told evaluationOf (c .before .evaluated .given .1) (call .ensures .answer));
       buffer = call .ensures .buffer;
     }
-
-same-length-2 : tie.Need-same-length-2
-same-length-2 c = search needs
 
 returns-2 : tie.Need-returns-2
 returns-2 c =
@@ -46,11 +28,5 @@ pub kidlothe-evaluate-spec : {M : Type 1} → statement M
 kidlothe-evaluate-spec =
     tie.close
     (tie.spec
-    evaluate-requires
-    enum-known-evaluated
-    enum-known-evaluated-2
-    number-requires
-    same-length
-    returns
-    same-length-2
+    (λ c κs. search needs) (λ c. search needs) (λ c. search needs) (λ c κs. search needs) (λ c. search needs) returns (λ c. search needs)
     returns-2)

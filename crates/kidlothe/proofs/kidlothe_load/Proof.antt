@@ -7,18 +7,6 @@ use borrow.Author.Needs.{needs}
 use Rattle.kidlothe.proofs.kidlothe_load.Statement.{statement}
 use Rattle.kidlothe.proofs.kidlothe_load.Tie as tie
 
-load-requires : tie.Need-load-requires
-load-requires c κs = search needs
-
-enum-told : tie.Need-enum-told
-enum-told c = search needs
-
-enum-known-loaded : tie.Need-enum-known-loaded
-enum-known-loaded c = search needs
-
-number-requires : tie.Need-number-requires
-number-requires c κs = search needs
-
 returns : tie.Need-returns
 returns c = told causeOf (c .enum-told .given .1) (c .before .before .load .ensures)
 
@@ -28,4 +16,4 @@ returns-2 c = c .number .ensures ∙ told causeOf (c .before .before .loaded .gi
 pub kidlothe-load-spec : {M : Type 1} → statement M
 kidlothe-load-spec =
     tie.close
-    (tie.spec load-requires enum-told enum-known-loaded number-requires returns returns-2)
+    (tie.spec (λ c κs. search needs) (λ c. search needs) (λ c. search needs) (λ c κs. search needs) returns returns-2)

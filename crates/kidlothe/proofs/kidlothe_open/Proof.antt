@@ -7,21 +7,6 @@ use borrow.Author.Needs.{needs}
 use Rattle.kidlothe.proofs.kidlothe_open.Statement.{statement}
 use Rattle.kidlothe.proofs.kidlothe_open.Tie as tie
 
-open-requires : tie.Need-open-requires
-open-requires c κs = search needs
-
-enum-known-opening : tie.Need-enum-known-opening
-enum-known-opening c = search needs
-
-session-words-requires : tie.Need-session-words-requires
-session-words-requires c κs = search needs
-
-enum-known-opening-2 : tie.Need-enum-known-opening-2
-enum-known-opening-2 c = search needs
-
-number-requires : tie.Need-number-requires
-number-requires c κs = search needs
-
 returns : tie.Need-returns
 returns c =
     let case = c .before .before .opening .given in
@@ -38,10 +23,4 @@ pub kidlothe-open-spec : {M : Type 1} → statement M
 kidlothe-open-spec =
     tie.close
     (tie.spec
-    open-requires
-    enum-known-opening
-    session-words-requires
-    enum-known-opening-2
-    number-requires
-    returns
-    returns-2)
+    (λ c κs. search needs) (λ c. search needs) (λ c κs. search needs) (λ c. search needs) (λ c κs. search needs) returns returns-2)

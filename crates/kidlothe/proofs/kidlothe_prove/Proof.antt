@@ -9,21 +9,6 @@ use borrow.Author.Needs.{needs}
 use Rattle.kidlothe.proofs.kidlothe_prove.Statement.{statement}
 use Rattle.kidlothe.proofs.kidlothe_prove.Tie as tie
 
-prove-requires : tie.Need-prove-requires
-prove-requires c κs = search needs
-
-enum-known-proved : tie.Need-enum-known-proved
-enum-known-proved c = search needs
-
-enum-known-proved-2 : tie.Need-enum-known-proved-2
-enum-known-proved-2 c = search needs
-
-number-requires : tie.Need-number-requires
-number-requires c κs = search needs
-
-same-length : tie.Need-same-length
-same-length c = search needs
-
 returns : tie.Need-returns
 returns c =
     let call = c .before .before .before .before .before .prove in
@@ -31,9 +16,6 @@ returns c =
       answer = ap plainProof (told provedOf (c .before .proved .given .1) (call .ensures .answer));
       buffer = call .ensures .buffer;
     }
-
-same-length-2 : tie.Need-same-length-2
-same-length-2 c = search needs
 
 returns-2 : tie.Need-returns-2
 returns-2 c =
@@ -47,11 +29,5 @@ pub kidlothe-prove-spec : {M : Type 1} → statement M
 kidlothe-prove-spec =
     tie.close
     (tie.spec
-    prove-requires
-    enum-known-proved
-    enum-known-proved-2
-    number-requires
-    same-length
-    returns
-    same-length-2
+    (λ c κs. search needs) (λ c. search needs) (λ c. search needs) (λ c κs. search needs) (λ c. search needs) returns (λ c. search needs)
     returns-2)

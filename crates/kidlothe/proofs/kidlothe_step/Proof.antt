@@ -8,18 +8,6 @@ use borrow.Author.Needs.{needs}
 use Rattle.kidlothe.proofs.kidlothe_step.Statement.{statement}
 use Rattle.kidlothe.proofs.kidlothe_step.Tie as tie
 
-session-of-requires : tie.Need-session-of-requires
-session-of-requires c κs = search needs
-
-step-requires : tie.Need-step-requires
-step-requires c κs = search needs
-
-step-words-requires : tie.Need-step-words-requires
-step-words-requires c κs = search needs
-
-step-of-requires : tie.Need-step-of-requires
-step-of-requires c κs = search needs
-
 returns : tie.Need-returns
 returns c =
     let a = c .before .before .before .before .before .before .before .before .before .before .before .args in
@@ -34,4 +22,4 @@ returns c =
 pub kidlothe-step-spec : {M : Type 1} → statement M
 kidlothe-step-spec =
     tie.close
-    (tie.spec session-of-requires step-requires step-words-requires step-of-requires returns)
+    (tie.spec (λ c κs. search needs) (λ c κs. search needs) (λ c κs. search needs) (λ c κs. search needs) returns)

@@ -8,18 +8,6 @@ use borrow.Author.Needs.{needs}
 use Rattle.kidlothe.proofs.step_of.Statement.{statement}
 use Rattle.kidlothe.proofs.step_of.Tie as tie
 
-enum-told : tie.Need-enum-told
-enum-told c = search needs
-
-enum-known-verdict : tie.Need-enum-known-verdict
-enum-known-verdict c = search needs
-
-enum-known-verdict-2 : tie.Need-enum-known-verdict-2
-enum-known-verdict-2 c = search needs
-
-number-requires : tie.Need-number-requires
-number-requires c κs = search needs
-
 returns : tie.Need-returns
 returns c = ap (λ v. plainStep (verdictOf v)) (sym (c .enum-told .given .1))
 
@@ -35,10 +23,4 @@ pub step-of-spec : {M : Type 1} → statement M
 step-of-spec =
     tie.close
     (tie.spec
-    enum-told
-    enum-known-verdict
-    enum-known-verdict-2
-    number-requires
-    returns
-    returns-2
-    returns-3)
+    (λ c. search needs) (λ c. search needs) (λ c. search needs) (λ c κs. search needs) returns returns-2 returns-3)

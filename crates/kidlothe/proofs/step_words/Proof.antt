@@ -7,12 +7,6 @@ use borrow.Author.Needs.{needs}
 use Rattle.kidlothe.proofs.step_words.Statement.{statement}
 use Rattle.kidlothe.proofs.step_words.Tie as tie
 
-element-copy-out-if1 : tie.Need-element-copy-out-if1
-element-copy-out-if1 c = search needs
-
-session-words-requires : tie.Need-session-words-requires
-session-words-requires c κs = search needs
-
 returns : tie.Need-returns
 returns c =
     let a = c .before .before .before .args in
@@ -25,4 +19,4 @@ returns-2 c =
 
 pub step-words-spec : {M : Type 1} → statement M
 step-words-spec =
-    tie.close (tie.spec element-copy-out-if1 session-words-requires returns returns-2)
+    tie.close (tie.spec (λ c. search needs) (λ c κs. search needs) returns returns-2)

@@ -8,24 +8,6 @@ use borrow.Author.Needs.{needs}
 use Rattle.layout.proofs.all_gates.Statement.{statement}
 use Rattle.layout.proofs.all_gates.Tie as tie
 
-gates-start-requires : tie.Need-gates-start-requires
-gates-start-requires c κs = search needs
-
-least-requires : tie.Need-least-requires
-least-requires c κs = search needs
-
-mul-result : tie.Need-mul-result
-mul-result c = search needs
-
-sub-result : tie.Need-sub-result
-sub-result c = search needs
-
-part-result-start : tie.Need-part-result-start
-part-result-start c = search needs
-
-part-result-end : tie.Need-part-result-end
-part-result-end c = search needs
-
 returns : tie.Need-returns
 returns c =
     let start = c .before in
@@ -36,10 +18,4 @@ pub all-gates-spec : {M : Type 1} → statement M
 all-gates-spec =
     tie.close
     (tie.spec
-    gates-start-requires
-    least-requires
-    mul-result
-    sub-result
-    part-result-start
-    part-result-end
-    returns)
+    (λ c κs. search needs) (λ c κs. search needs) (λ c. search needs) (λ c. search needs) (λ c. search needs) (λ c. search needs) returns)

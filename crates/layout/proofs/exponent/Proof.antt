@@ -10,22 +10,10 @@ use Rattle.layout.proofs.exponent.Tie as tie
 returns : tie.Need-returns
 returns c = exponent-first (c .before .before .args .circuit .now) (c .before .before .args .layer) (c .if1 .taken)
 
-depth-requires : tie.Need-depth-requires
-depth-requires c κs = search needs
-
 returns-2 : tie.Need-returns-2
 returns-2 c =
     let start = c .before .before .before .before in
     exponent-past (start .args .circuit .now) (start .args .layer) (omega (arith, c .if2 .taken, c .before .depth .ensures .0))
-
-add-word : tie.Need-add-word
-add-word c = search needs
-
-sub-word : tie.Need-sub-word
-sub-word c = search needs
-
-word-requires : tie.Need-word-requires
-word-requires c κs = search needs
 
 returns-3 : tie.Need-returns-3
 returns-3 c =
@@ -36,4 +24,4 @@ returns-3 c =
 
 pub exponent-spec : {M : Type 1} → statement M
 exponent-spec =
-    tie.close (tie.spec returns depth-requires returns-2 add-word sub-word word-requires returns-3)
+    tie.close (tie.spec returns (λ c κs. search needs) returns-2 (λ c. search needs) (λ c. search needs) (λ c κs. search needs) returns-3)

@@ -8,27 +8,6 @@ use borrow.Author.Needs.{needs}
 use Rattle.layout.proofs.exponents.Statement.{statement}
 use Rattle.layout.proofs.exponents.Tie as tie
 
-least-requires : tie.Need-least-requires
-least-requires c κs = search needs
-
-gates-start-requires : tie.Need-gates-start-requires
-gates-start-requires c κs = search needs
-
-least-requires-2 : tie.Need-least-requires-2
-least-requires-2 c κs = search needs
-
-mul-result : tie.Need-mul-result
-mul-result c = search needs
-
-sub-result : tie.Need-sub-result
-sub-result c = search needs
-
-part-result-start : tie.Need-part-result-start
-part-result-start c = search needs
-
-part-result-end : tie.Need-part-result-end
-part-result-end c = search needs
-
 returns : tie.Need-returns
 returns c =
     let end = c .before in
@@ -40,11 +19,5 @@ pub exponents-spec : {M : Type 1} → statement M
 exponents-spec =
     tie.close
     (tie.spec
-    least-requires
-    gates-start-requires
-    least-requires-2
-    mul-result
-    sub-result
-    part-result-start
-    part-result-end
-    returns)
+    (λ c κs. search needs) (λ c κs. search needs) (λ c κs. search needs) (λ c. search needs) (λ c. search needs) (λ c. search needs)
+    (λ c. search needs) returns)

@@ -15,50 +15,14 @@ use Rattle.layout.proofs.gates_above.Tie as tie
 small : (w : tie.After-width) → w .width .result ≤ maxWidth
 small w = let s = width-small (w .before .exponent .result) in omega (arith, w .width .ensures)
 
-slice-aggregate-result : tie.Need-slice-aggregate-result
-slice-aggregate-result c = search needs
-
 returns : tie.Need-returns
 returns c h some = absurd (omega (arith, some, c .before .if1 .taken))
-
-all-gates-requires : tie.Need-all-gates-requires
-all-gates-requires c κs = search needs
-
-gates-before-requires : tie.Need-gates-before-requires
-gates-before-requires c κs = search needs
-
-mul-least : tie.Need-mul-least
-mul-least c = search needs
-
-least-requires : tie.Need-least-requires
-least-requires c κs = search needs
-
-exponent-requires : tie.Need-exponent-requires
-exponent-requires c κs = search needs
-
-width-requires : tie.Need-width-requires
-width-requires c κs = search needs
 
 mul-least-2 : tie.Need-mul-least-2
 mul-least-2 c = let s = small c in omega arith
 
 add-least : tie.Need-add-least
 add-least c = let s = small c in omega (arith, c .before .before .least .ensures, c .before .before .before .gates-before .ensures .few)
-
-least-requires-2 : tie.Need-least-requires-2
-least-requires-2 c κs = search needs
-
-mul-result : tie.Need-mul-result
-mul-result c = search needs
-
-sub-result : tie.Need-sub-result
-sub-result c = search needs
-
-part-result-start : tie.Need-part-result-start
-part-result-start c = search needs
-
-part-result-end : tie.Need-part-result-end
-part-result-end c = search needs
 
 returns-2 : tie.Need-returns-2
 returns-2 c h some last =
@@ -77,19 +41,6 @@ pub gates-above-spec : {M : Type 1} → statement M
 gates-above-spec =
     tie.close
     (tie.spec
-    slice-aggregate-result
-    returns
-    all-gates-requires
-    gates-before-requires
-    mul-least
-    least-requires
-    exponent-requires
-    width-requires
-    mul-least-2
-    add-least
-    least-requires-2
-    mul-result
-    sub-result
-    part-result-start
-    part-result-end
-    returns-2)
+    (λ c. search needs) returns (λ c κs. search needs) (λ c κs. search needs) (λ c. search needs) (λ c κs. search needs)
+    (λ c κs. search needs) (λ c κs. search needs) mul-least-2 add-least (λ c κs. search needs) (λ c. search needs) (λ c. search needs)
+    (λ c. search needs) (λ c. search needs) returns-2)

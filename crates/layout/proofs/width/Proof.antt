@@ -13,9 +13,6 @@ use Rattle.layout.proofs.width.Tie as tie
 returns : tie.Need-returns
 returns c = sym (width-none (c .before .args .k) (c .if1 .taken))
 
-shl-result : tie.Need-shl-result
-shl-result c = search needs
-
 returns-2 : tie.Need-returns-2
 returns-2 c =
     let h = c .if1 .left in
@@ -23,4 +20,4 @@ returns-2 c =
     ∙ sym (width-of (c .before .args .k) h)
 
 pub width-spec : {M : Type 1} → statement M
-width-spec = tie.close (tie.spec returns shl-result returns-2)
+width-spec = tie.close (tie.spec returns (λ c. search needs) returns-2)

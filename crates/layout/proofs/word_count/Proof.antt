@@ -9,21 +9,6 @@ use borrow.Author.Needs.{needs}
 use Rattle.layout.proofs.word_count.Statement.{statement}
 use Rattle.layout.proofs.word_count.Tie as tie
 
-gates-start-requires : tie.Need-gates-start-requires
-gates-start-requires c κs = search needs
-
-depth-requires : tie.Need-depth-requires
-depth-requires c κs = search needs
-
-gates-before-requires : tie.Need-gates-before-requires
-gates-before-requires c κs = search needs
-
-mul-result : tie.Need-mul-result
-mul-result c = search needs
-
-add-result : tie.Need-add-result
-add-result c = search needs
-
 returns : tie.Need-returns
 unfolding wordCount
 returns c h =
@@ -37,9 +22,4 @@ pub word-count-spec : {M : Type 1} → statement M
 word-count-spec =
     tie.close
     (tie.spec
-    gates-start-requires
-    depth-requires
-    gates-before-requires
-    mul-result
-    add-result
-    returns)
+    (λ c κs. search needs) (λ c κs. search needs) (λ c κs. search needs) (λ c. search needs) (λ c. search needs) returns)

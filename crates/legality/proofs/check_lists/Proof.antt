@@ -29,19 +29,10 @@ count n = n .if1 .left ∙ n .before .input-count .ensures
 below : (b : tie.After-all-below) → allBelow (primeOf (start (told (b .before .before)) .args .circuit .now)) (start (told (b .before .before)) .args .input .now) ≡ b .all-below .result
 below b = sym (ap (λ (p : ℕ). allBelow p (start (told (b .before .before)) .args .input .now)) (b .before .prime .ensures)) ∙ sym (b .all-below .ensures)
 
-load-requires : tie.Need-load-requires
-load-requires c κs = search needs
-
-enum-known-loaded : tie.Need-enum-known-loaded
-enum-known-loaded c = search needs
-
 returns : tie.Need-returns
 returns c =
     let told = c .before .loaded .given in
     sym (lists-load _ _ (told .0 .0) (sym (ap causeOf (told .1)) ∙ c .before .before .before .load .ensures))
-
-enum-told : tie.Need-enum-told
-enum-told c = search needs
 
 input-count-requires : tie.Need-input-count-requires
 input-count-requires c κs = legal-circuit _ (legal c)
@@ -51,12 +42,6 @@ returns-2 c =
     let t = c .before .before in
     let a = start t .args in
     sym (lists-count (a .circuit .now) (a .input .now) (legal t) (λ e. c .if1 .taken (e ∙ sym (c .before .input-count .ensures))))
-
-prime-requires : tie.Need-prime-requires
-prime-requires c κs = search needs
-
-all-below-requires : tie.Need-all-below-requires
-all-below-requires c κs = search needs
 
 returns-3 : tie.Need-returns-3
 returns-3 c =
@@ -74,13 +59,5 @@ pub check-lists-spec : {M : Type 1} → statement M
 check-lists-spec =
     tie.close
     (tie.spec
-    load-requires
-    enum-known-loaded
-    returns
-    enum-told
-    input-count-requires
-    returns-2
-    prime-requires
-    all-below-requires
-    returns-3
-    returns-4)
+    (λ c κs. search needs) (λ c. search needs) returns (λ c. search needs) input-count-requires returns-2 (λ c κs. search needs)
+    (λ c κs. search needs) returns-3 returns-4)

@@ -10,15 +10,6 @@ use borrow.Author.Needs.{needs}
 use Rattle.legality.proofs.input_count.Statement.{statement}
 use Rattle.legality.proofs.input_count.Tie as tie
 
-depth-requires : tie.Need-depth-requires
-depth-requires c κs = search needs
-
-exponent-requires : tie.Need-exponent-requires
-exponent-requires c κs = search needs
-
-width-requires : tie.Need-width-requires
-width-requires c κs = search needs
-
 returns : tie.Need-returns
 returns c =
     let start = c .before .before .before .before in
@@ -27,4 +18,4 @@ returns c =
     ∙ exponent-width l (depthOf l) (layer-of l (start .pre) (depthOf l) (le-refl (depthOf l))) ∙ ap (λ (k : ℕ). 2 ^ k) (last-exponent l (start .pre))
 
 pub input-count-spec : {M : Type 1} → statement M
-input-count-spec = tie.close (tie.spec depth-requires exponent-requires width-requires returns)
+input-count-spec = tie.close (tie.spec (λ c κs. search needs) (λ c κs. search needs) (λ c κs. search needs) returns)

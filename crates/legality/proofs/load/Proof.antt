@@ -64,25 +64,13 @@ headed x =
 counted : (w : tie.Else7) → length (known (range (w .before .before))) ≡ wordCount (known (range (w .before .before)))
 counted w = w .if7 .left ∙ w .before .word-count .ensures (headed (w .before .before))
 
-has-header-requires : tie.Need-has-header-requires
-has-header-requires c κs = search needs
-
 returns : tie.Need-returns
 returns c = sym (load-short (c .before .before .before .args .circuit .now) (sym (c .before .has-header .ensures) ∙ not-true (c .if1 .taken)))
-
-prime-requires : tie.Need-prime-requires
-prime-requires c κs = search needs
-
-is-listed-requires : tie.Need-is-listed-requires
-is-listed-requires c κs = search needs
 
 returns-2 : tie.Need-returns-2
 returns-2 c =
     let h = c .before .before .before in
     sym (load-prime (list h) (two h) (sym (ap isListed (c .before .before .prime .ensures)) ∙ sym (c .before .is-listed .ensures) ∙ not-true (c .if2 .taken)))
-
-depth-requires : tie.Need-depth-requires
-depth-requires c κs = search needs
 
 returns-3 : tie.Need-returns-3
 returns-3 c =
@@ -94,28 +82,16 @@ returns-4 c =
     let p = c .before .before .before in
     sym (load-deep (list (header p)) (two (header p)) (listed p) (omega (arith, c .if4 .taken, c .before .before .depth .ensures .0)))
 
-exponents-requires : tie.Need-exponents-requires
-exponents-requires c κs = search needs
-
 returns-5 : tie.Need-returns-5
 returns-5 c =
     let d = c .before .before in
     sym (load-ends (known d) (ranged d) (λ e. c .if5 .taken (ap length (c .before .exponents .ensures) ∙ e ∙ sym (d .before .before .depth .ensures .0))))
-
-add-all-below : tie.Need-add-all-below
-add-all-below c = search needs
-
-all-below-requires : tie.Need-all-below-requires
-all-below-requires c κs = search needs
 
 returns-6 : tie.Need-returns-6
 returns-6 c =
     let d = c .before .before .before .before in
     sym (load-wide (known d) (ranged d)
     (sym (ap (allBelow (maxExponent + 1)) (c .before .before .before .exponents .ensures)) ∙ sym (c .before .all-below .ensures) ∙ not-true (c .if6 .taken)))
-
-word-count-requires : tie.Need-word-count-requires
-word-count-requires c κs = search needs
 
 returns-7 : tie.Need-returns-7
 returns-7 c =
@@ -134,20 +110,6 @@ pub load-spec : {M : Type 1} → statement M
 load-spec =
     tie.close
     (tie.spec
-    has-header-requires
-    returns
-    prime-requires
-    is-listed-requires
-    returns-2
-    depth-requires
-    returns-3
-    returns-4
-    exponents-requires
-    returns-5
-    add-all-below
-    all-below-requires
-    returns-6
-    word-count-requires
-    returns-7
-    check-layers-requires
-    returns-8)
+    (λ c κs. search needs) returns (λ c κs. search needs) (λ c κs. search needs) returns-2 (λ c κs. search needs) returns-3 returns-4
+    (λ c κs. search needs) returns-5 (λ c. search needs) (λ c κs. search needs) returns-6 (λ c κs. search needs) returns-7
+    check-layers-requires returns-8)

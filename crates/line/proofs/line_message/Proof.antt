@@ -13,15 +13,6 @@ use Rattle.line.specs.Row.{padded}
 use Rattle.line.proofs.line_message.Statement.{statement}
 use Rattle.line.proofs.line_message.Tie as tie
 
-least-requires : tie.Need-least-requires
-least-requires c κs = search needs
-
-array-copy-out-u : tie.Need-array-copy-out-u
-array-copy-out-u c = search needs
-
-array-copy-out-v : tie.Need-array-copy-out-v
-array-copy-out-v c = search needs
-
 array-share-prefix-u : tie.Need-array-share-prefix-u
 array-share-prefix-u c =
     let counted = c .before .before in
@@ -45,9 +36,6 @@ slice-aggregate-halves-2 c =
     let counted = c .before .before .before .before in
     let start = counted .before .before in
     length-part (start .args .t3) _ _ (start .args .k) _ (start .good .1 .1 .0) (omega arith) (counted .least .ensures)
-
-slice-aggregate-halves-3 : tie.Need-slice-aggregate-halves-3
-slice-aggregate-halves-3 c = search needs
 
 halves-requires : tie.Need-halves-requires
 halves-requires c κs =
@@ -77,13 +65,5 @@ pub line-message-spec : {M : Type 1} → statement M
 line-message-spec =
     tie.close
     (tie.spec
-    least-requires
-    array-copy-out-u
-    array-copy-out-v
-    array-share-prefix-u
-    slice-aggregate-halves
-    array-share-prefix-v
-    slice-aggregate-halves-2
-    slice-aggregate-halves-3
-    halves-requires
-    returns)
+    (λ c κs. search needs) (λ c. search needs) (λ c. search needs) array-share-prefix-u slice-aggregate-halves array-share-prefix-v
+    slice-aggregate-halves-2 (λ c. search needs) halves-requires returns)

@@ -15,24 +15,6 @@ use borrow.Author.Needs.{needs}
 use Rattle.messages.proofs.write_line.Statement.{statement}
 use Rattle.messages.proofs.write_line.Tie as tie
 
-at-round-requires : tie.Need-at-round-requires
-at-round-requires c κs = search needs
-
-prime-requires : tie.Need-prime-requires
-prime-requires c κs = search needs
-
-of-requires : tie.Need-of-requires
-of-requires c κs = search needs
-
-line-message-requires : tie.Need-line-message-requires
-line-message-requires c κs = search needs
-
-add-count : tie.Need-add-count
-add-count c = search needs
-
-array-share-prefix-words : tie.Need-array-share-prefix-words
-array-share-prefix-words c = search needs
-
 slice-aggregate-put : tie.Need-slice-aggregate-put
 slice-aggregate-put c =
     let words = c .before .before .line-message in
@@ -40,12 +22,6 @@ slice-aggregate-put c =
     let size : length (words .result) ≡ maxCoefficients = search needs in
     let at = c .before .before .before .before .before .before .before .at-round in
     sym (length-take-le _ _ (omega (arith, size, at .ensures .within .own)))
-
-put-requires : tie.Need-put-requires
-put-requires c κs = search needs
-
-same-length : tie.Need-same-length
-same-length c = search needs
 
 returns : tie.Need-returns
 returns c il h =
@@ -71,13 +47,5 @@ pub write-line-spec : {M : Type 1} → statement M
 write-line-spec =
     tie.close
     (tie.spec
-    at-round-requires
-    prime-requires
-    of-requires
-    line-message-requires
-    add-count
-    array-share-prefix-words
-    slice-aggregate-put
-    put-requires
-    same-length
-    returns)
+    (λ c κs. search needs) (λ c κs. search needs) (λ c κs. search needs) (λ c κs. search needs) (λ c. search needs) (λ c. search needs)
+    slice-aggregate-put (λ c κs. search needs) (λ c. search needs) returns)

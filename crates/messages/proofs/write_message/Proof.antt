@@ -52,65 +52,17 @@ message w vs =
 from-whole : (w : tie.After-width) → Ready w (own w) → (after : List ℕ) → after ≡ message w (part w) → after ≡ message w (own w)
 from-whole w h after e = e ∙ ap (message w) (whole w h)
 
-gates-before-requires : tie.Need-gates-before-requires
-gates-before-requires c κs = search needs
-
-exponent-requires : tie.Need-exponent-requires
-exponent-requires c κs = search needs
-
-width-requires : tie.Need-width-requires
-width-requires c κs = search needs
-
 add-to : tie.Need-add-to
 add-to c = let few = small c in search needs
 
 returns : tie.Need-returns
 returns c h = absurd (omega (arith, inside (c .before) h, c .if1 .taken))
 
-is-line-requires : tie.Need-is-line-requires
-is-line-requires c κs = search needs
-
-mul-write-line : tie.Need-mul-write-line
-mul-write-line c = search needs
-
-sub-write-line : tie.Need-sub-write-line
-sub-write-line c = search needs
-
-part-write-line-start : tie.Need-part-write-line-start
-part-write-line-start c = search needs
-
-part-write-line-end : tie.Need-part-write-line-end
-part-write-line-end c = search needs
-
-write-line-requires : tie.Need-write-line-requires
-write-line-requires c κs = search needs
-
-same-length : tie.Need-same-length
-same-length c = search needs
-
 returns-2 : tie.Need-returns-2
 returns-2 c h =
     let w = c .before .before .before .before .before .before .before .before in
     let is-line = c .before .before .before .before .before .before .is-line .ensures in
     from-whole w h _ (c .before .before .write-line .ensures (sym is-line ∙ search needs) (ready w h))
-
-mul-write-sum : tie.Need-mul-write-sum
-mul-write-sum c = search needs
-
-sub-write-sum : tie.Need-sub-write-sum
-sub-write-sum c = search needs
-
-part-write-sum-start : tie.Need-part-write-sum-start
-part-write-sum-start c = search needs
-
-part-write-sum-end : tie.Need-part-write-sum-end
-part-write-sum-end c = search needs
-
-write-sum-requires : tie.Need-write-sum-requires
-write-sum-requires c κs = search needs
-
-same-length-2 : tie.Need-same-length-2
-same-length-2 c = search needs
 
 returns-3 : tie.Need-returns-3
 returns-3 c h =
@@ -122,23 +74,6 @@ pub write-message-spec : {M : Type 1} → statement M
 write-message-spec =
     tie.close
     (tie.spec
-    gates-before-requires
-    exponent-requires
-    width-requires
-    add-to
-    returns
-    is-line-requires
-    mul-write-line
-    sub-write-line
-    part-write-line-start
-    part-write-line-end
-    write-line-requires
-    same-length
-    returns-2
-    mul-write-sum
-    sub-write-sum
-    part-write-sum-start
-    part-write-sum-end
-    write-sum-requires
-    same-length-2
-    returns-3)
+    (λ c κs. search needs) (λ c κs. search needs) (λ c κs. search needs) add-to returns (λ c κs. search needs) (λ c. search needs)
+    (λ c. search needs) (λ c. search needs) (λ c. search needs) (λ c κs. search needs) (λ c. search needs) returns-2 (λ c. search needs)
+    (λ c. search needs) (λ c. search needs) (λ c. search needs) (λ c κs. search needs) (λ c. search needs) returns-3)

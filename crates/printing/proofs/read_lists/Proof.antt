@@ -12,9 +12,6 @@ returns c =
     let a = c .before .before .args in
     read-long (a .number) (a .bytes .now) (a .words .now) (omega arith)
 
-read-requires : tie.Need-read-requires
-read-requires c κs = search needs
-
 returns-2 : tie.Need-returns-2
 returns-2 c =
     let a = c .before .before .before .before .args in
@@ -22,4 +19,4 @@ returns-2 c =
     (c .read .ensures .0 ∙ short .0, c .read .ensures .1 ∙ short .1)
 
 pub read-lists-spec : {M : Type 1} → statement M
-read-lists-spec = tie.close (tie.spec returns read-requires returns-2)
+read-lists-spec = tie.close (tie.spec returns (λ c κs. search needs) returns-2)

@@ -9,20 +9,11 @@ use Rattle.programs.proofs.Texts.{text-short, longest-fits}
 use Rattle.programs.proofs.print_text.Statement.{statement}
 use Rattle.programs.proofs.print_text.Tie as tie
 
-slice-aggregate-write-text : tie.Need-slice-aggregate-write-text
-slice-aggregate-write-text c = search needs
-
-write-text-requires : tie.Need-write-text-requires
-write-text-requires c κs = search needs
-
 array-share-prefix-text : tie.Need-array-share-prefix-text
 array-share-prefix-text c = wrote-within _ _ _ _ (c .before .write-text .ensures)
 
 slice-aggregate-write-all : tie.Need-slice-aggregate-write-all
 slice-aggregate-write-all c = sym (length-take-le _ _ (wrote-within _ _ _ _ (c .before .before .write-text .ensures)))
-
-write-all-requires : tie.Need-write-all-requires
-write-all-requires c κs = search needs
 
 returns : tie.Need-returns
 returns c =
@@ -36,9 +27,4 @@ pub print-text-spec : {M : Type 1} → statement M
 print-text-spec =
     tie.close
     (tie.spec
-    slice-aggregate-write-text
-    write-text-requires
-    array-share-prefix-text
-    slice-aggregate-write-all
-    write-all-requires
-    returns)
+    (λ c. search needs) (λ c κs. search needs) array-share-prefix-text slice-aggregate-write-all (λ c κs. search needs) returns)

@@ -16,27 +16,6 @@ lists o =
     let a = o .before .before .before .before .before .args in
     a .circuit .now ∷ a .input .now ∷ a .coins .now ∷ a .transcript .now ∷ []
 
-enum-told : tie.Need-enum-told
-enum-told c = search needs
-
-write-lists-requires : tie.Need-write-lists-requires
-write-lists-requires c κs = search needs
-
-enum-told-2 : tie.Need-enum-told-2
-enum-told-2 c = search needs
-
-write-lists-requires-2 : tie.Need-write-lists-requires-2
-write-lists-requires-2 c κs = search needs
-
-enum-told-3 : tie.Need-enum-told-3
-enum-told-3 c = search needs
-
-write-lists-requires-3 : tie.Need-write-lists-requires-3
-write-lists-requires-3 c κs = search needs
-
-same-length : tie.Need-same-length
-same-length c = search needs
-
 returns : tie.Need-returns
 unfolding textOf
 returns c =
@@ -44,18 +23,12 @@ returns c =
     wrote-as _ _ _ _ (c .before .before .write-lists .ensures) _
     (ap (λ (p : Program). textOf p (lists (known .before .before))) (sym (known .enum-told .given .1)))
 
-same-length-2 : tie.Need-same-length-2
-same-length-2 c = search needs
-
 returns-2 : tie.Need-returns-2
 unfolding textOf
 returns-2 c =
     let known = c .before .before .before .before in
     wrote-as _ _ _ _ (c .before .before .write-lists2 .ensures) _
     (ap (λ (p : Program). textOf p (lists (known .before .before))) (sym (known .enum-told2 .given .1)))
-
-same-length-3 : tie.Need-same-length-3
-same-length-3 c = search needs
 
 returns-3 : tie.Need-returns-3
 unfolding textOf
@@ -68,15 +41,5 @@ pub write-lists-spec : {M : Type 1} → statement M
 write-lists-spec =
     tie.close
     (tie.spec
-    enum-told
-    write-lists-requires
-    enum-told-2
-    write-lists-requires-2
-    enum-told-3
-    write-lists-requires-3
-    same-length
-    returns
-    same-length-2
-    returns-2
-    same-length-3
-    returns-3)
+    (λ c. search needs) (λ c κs. search needs) (λ c. search needs) (λ c κs. search needs) (λ c. search needs) (λ c κs. search needs)
+    (λ c. search needs) returns (λ c. search needs) returns-2 (λ c. search needs) returns-3)

@@ -35,50 +35,17 @@ standing r =
     parts _ _ (replicate maxWords 0) (length-replicate {A = ℕ} maxWords 0) _ _ _ _ _
     (sym (ap answerOf (r .read2 .given .1)) ∙ call .ensures .0) (call .ensures .1)
 
-arrays-of-requires : tie.Need-arrays-of-requires
-arrays-of-requires c κs = search needs
-
-read-lists-requires : tie.Need-read-lists-requires
-read-lists-requires c κs = search needs
-
-enum-known-read : tie.Need-enum-known-read
-enum-known-read c = search needs
-
-write-refused-requires : tie.Need-write-refused-requires
-write-refused-requires c κs = search needs
-
-enum-known-read-2 : tie.Need-enum-known-read-2
-enum-known-read-2 c = search needs
-
 slice-aggregate-write-parts : tie.Need-slice-aggregate-write-parts
 slice-aggregate-write-parts c = sym (standing (c .before .before) .size)
 
-cast-write-parts : tie.Need-cast-write-parts
-cast-write-parts c = search needs
-
-cast-write-parts-2 : tie.Need-cast-write-parts-2
-cast-write-parts-2 c = search needs
-
-cast-write-parts-3 : tie.Need-cast-write-parts-3
-cast-write-parts-3 c = search needs
-
-cast-write-parts-4 : tie.Need-cast-write-parts-4
-cast-write-parts-4 c = search needs
-
 write-parts-requires : tie.Need-write-parts-requires
 write-parts-requires c κs = standing (c .before .before .before) .inside
-
-same-length : tie.Need-same-length
-same-length c = search needs
 
 returns : tie.Need-returns
 returns c =
     let r = c .before .before .before .before .before in
     wrote-as _ _ _ _ (c .before .before .write-refused .ensures) _
     (printed-unfit _ _ _ (called-for (r .before .before)) _ (sym (ap answerOf (r .read .given .1)) ∙ r .before .before .read-lists .ensures .0))
-
-same-length-2 : tie.Need-same-length-2
-same-length-2 c = search needs
 
 returns-2 : tie.Need-returns-2
 returns-2 c =
@@ -90,18 +57,6 @@ pub write-text-spec : {M : Type 1} → statement M
 write-text-spec =
     tie.close
     (tie.spec
-    arrays-of-requires
-    read-lists-requires
-    enum-known-read
-    write-refused-requires
-    enum-known-read-2
-    slice-aggregate-write-parts
-    cast-write-parts
-    cast-write-parts-2
-    cast-write-parts-3
-    cast-write-parts-4
-    write-parts-requires
-    same-length
-    returns
-    same-length-2
-    returns-2)
+    (λ c κs. search needs) (λ c κs. search needs) (λ c. search needs) (λ c κs. search needs) (λ c. search needs) slice-aggregate-write-parts
+    (λ c. search needs) (λ c. search needs) (λ c. search needs) (λ c. search needs) write-parts-requires (λ c. search needs) returns
+    (λ c. search needs) returns-2)

@@ -5,12 +5,6 @@ use borrow.Author.Needs.{needs}
 use Rattle.prover.proofs.fill_values.Statement.{statement}
 use Rattle.prover.proofs.fill_values.Tie as tie
 
-evaluate-requires : tie.Need-evaluate-requires
-evaluate-requires c κs = search needs
-
-same-length : tie.Need-same-length
-same-length c = search needs
-
 returns : tie.Need-returns
 returns c =
     let start = c .before .before .before .before .before .before .before in
@@ -18,4 +12,4 @@ returns c =
     evaluated (start .args .circuit .now) (start .args .input .now) (start .pre .0) (start .args .values .now) _ (call .result) (start .pre .1) (call .ensures)
 
 pub fill-values-spec : {M : Type 1} → statement M
-fill-values-spec = tie.close (tie.spec evaluate-requires same-length returns)
+fill-values-spec = tie.close (tie.spec (λ c κs. search needs) (λ c. search needs) returns)

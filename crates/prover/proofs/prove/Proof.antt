@@ -55,37 +55,16 @@ taken e = e .before .before
 room : (e : tie.Else1) → messageWords (l (listed (taken e))) ≤ length (m (listed (taken e)))
 room e = subst (λ (n : ℕ). n ≤ length (m (listed (taken e)))) (e .before .message-words .ensures (legal (listed (taken e)))) (e .if1 .left)
 
-check-lists-requires : tie.Need-check-lists-requires
-check-lists-requires c κs = search needs
-
-enum-known-lists : tie.Need-enum-known-lists
-enum-known-lists c = search needs
-
 returns : tie.Need-returns
 returns c =
     let told = c .before .lists .given in
     whole-lists _ _ _ _ (told .0 .0) (sym (ap causeOf (told .1)) ∙ c .before .before .before .check-lists .ensures)
-
-enum-told : tie.Need-enum-told
-enum-told c = search needs
-
-check-coins-requires : tie.Need-check-coins-requires
-check-coins-requires c κs = search needs
-
-enum-known-taken : tie.Need-enum-known-taken
-enum-known-taken c = search needs
 
 returns-2 : tie.Need-returns-2
 returns-2 c =
     let t = c .before .before .before .before in
     let told = c .before .taken .given in
     whole-coins _ _ _ _ (none t) (told .0 .0) (sym (ap causeOf (told .1)) ∙ c .before .before .before .check-coins .ensures (legal t))
-
-enum-told-2 : tie.Need-enum-told-2
-enum-told-2 c = search needs
-
-message-words-requires : tie.Need-message-words-requires
-message-words-requires c κs = search needs
 
 returns-3 : tie.Need-returns-3
 returns-3 c =
@@ -96,9 +75,6 @@ returns-3 c =
 write-all-requires : tie.Need-write-all-requires
 write-all-requires c κs = let k = taken (c .before) in provable _ _ _ _ (none (listed k)) (free k) (room (c .before))
 
-same-length : tie.Need-same-length
-same-length c = search needs
-
 returns-4 : tie.Need-returns-4
 returns-4 c =
     let e = c .before .before .before .before in
@@ -108,16 +84,5 @@ pub prove-spec : {M : Type 1} → statement M
 prove-spec =
     tie.close
     (tie.spec
-    check-lists-requires
-    enum-known-lists
-    returns
-    enum-told
-    check-coins-requires
-    enum-known-taken
-    returns-2
-    enum-told-2
-    message-words-requires
-    returns-3
-    write-all-requires
-    same-length
-    returns-4)
+    (λ c κs. search needs) (λ c. search needs) returns (λ c. search needs) (λ c κs. search needs) (λ c. search needs) returns-2
+    (λ c. search needs) (λ c κs. search needs) returns-3 write-all-requires (λ c. search needs) returns-4)

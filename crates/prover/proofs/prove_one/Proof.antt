@@ -46,34 +46,16 @@ told e = counted (e .before)
 residues : (e : tie.Else2) → allBelow (primeOf (start (told e) .args .circuit .now)) (start (told e) .args .prefix .now) ≡ true
 residues e = below (e .before) ∙ not-false (e .if2 .left)
 
-check-lists-requires : tie.Need-check-lists-requires
-check-lists-requires c κs = search needs
-
-enum-known-lists : tie.Need-enum-known-lists
-enum-known-lists c = search needs
-
 returns : tie.Need-returns
 returns c =
     let said = c .before .lists .given in
     one-lists _ _ _ _ (said .0 .0) (sym (ap causeOf (said .1)) ∙ c .before .before .before .check-lists .ensures)
-
-enum-told : tie.Need-enum-told
-enum-told c = search needs
-
-coin-count-requires : tie.Need-coin-count-requires
-coin-count-requires c κs = search needs
 
 returns-2 : tie.Need-returns-2
 returns-2 c =
     let t = c .before .before in
     let count = c .before .coin-count .ensures (legal t) in
     one-count _ _ _ _ (none t) (omega (arith, count, c .if1 .taken))
-
-prime-requires : tie.Need-prime-requires
-prime-requires c κs = search needs
-
-all-below-requires : tie.Need-all-below-requires
-all-below-requires c κs = search needs
 
 returns-3 : tie.Need-returns-3
 returns-3 c =
@@ -83,9 +65,6 @@ returns-3 c =
 place-after-requires : tie.Need-place-after-requires
 place-after-requires c κs = (legal (told c), few (c .before .before .before))
 
-message-length-requires : tie.Need-message-length-requires
-message-length-requires c κs = search needs
-
 returns-4 : tie.Need-returns-4
 returns-4 c =
     let e = c .before .before .before in
@@ -94,20 +73,8 @@ returns-4 c =
     one-short _ _ _ _ (none (told e)) (few (e .before .before .before)) (residues e) _ (found .ensures)
     (omega (arith, size, c .if3 .taken))
 
-slice-aggregate-fill-values : tie.Need-slice-aggregate-fill-values
-slice-aggregate-fill-values c = search needs
-
 fill-values-requires : tie.Need-fill-values-requires
 fill-values-requires c κs = (none (told (c .before .before .before .before)), length-replicate {A = ℕ} maxValues 0)
-
-slice-aggregate-write-message : tie.Need-slice-aggregate-write-message
-slice-aggregate-write-message c = search needs
-
-write-message-requires : tie.Need-write-message-requires
-write-message-requires c κs = search needs
-
-same-length : tie.Need-same-length
-same-length c = search needs
 
 returns-5 : tie.Need-returns-5
 returns-5 c =
@@ -125,21 +92,6 @@ pub prove-one-spec : {M : Type 1} → statement M
 prove-one-spec =
     tie.close
     (tie.spec
-    check-lists-requires
-    enum-known-lists
-    returns
-    enum-told
-    coin-count-requires
-    returns-2
-    prime-requires
-    all-below-requires
-    returns-3
-    place-after-requires
-    message-length-requires
-    returns-4
-    slice-aggregate-fill-values
-    fill-values-requires
-    slice-aggregate-write-message
-    write-message-requires
-    same-length
-    returns-5)
+    (λ c κs. search needs) (λ c. search needs) returns (λ c. search needs) (λ c κs. search needs) returns-2 (λ c κs. search needs)
+    (λ c κs. search needs) returns-3 place-after-requires (λ c κs. search needs) returns-4 (λ c. search needs) fill-values-requires
+    (λ c. search needs) (λ c κs. search needs) (λ c. search needs) returns-5)

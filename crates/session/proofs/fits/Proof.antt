@@ -44,22 +44,10 @@ returns c =
 returns-2 : tie.Need-returns-2
 returns-2 c = let o = c .before .before in fits-low _ (start o .pre) _ (opened o) (c .if2 .taken)
 
-depth-requires : tie.Need-depth-requires
-depth-requires c κs = search needs
-
-cast-if3 : tie.Need-cast-if3
-cast-if3 c = search needs
-
 returns-3 : tie.Need-returns-3
 returns-3 c =
     let o = c .before .before .before .before .before in
     fits-deep _ (start o .pre) _ (opened o) (c .before .before .before .if2 .left) (omega (arith, c .if3 .taken, c .before .before .depth .ensures .0))
-
-cast-exponent : tie.Need-cast-exponent
-cast-exponent c = search needs
-
-exponent-requires : tie.Need-exponent-requires
-exponent-requires c κs = search needs
 
 mul-if4 : tie.Need-mul-if4
 mul-if4 c =
@@ -74,9 +62,6 @@ returns-4 c =
     let o = first d in
     fits-far _ (start o .pre) (held o) (opened o) (low d) (inside d) (subst (λ (i : ℕ). 2 * i < held o .round .round) (c .before .before .exponent .ensures) (c .if4 .taken))
 
-prime-requires : tie.Need-prime-requires
-prime-requires c κs = search needs
-
 returns-5 : tie.Need-returns-5
 returns-5 c =
     let e = c .before .before in
@@ -89,14 +74,5 @@ pub fits-spec : {M : Type 1} → statement M
 fits-spec =
     tie.close
     (tie.spec
-    returns
-    returns-2
-    depth-requires
-    cast-if3
-    returns-3
-    cast-exponent
-    exponent-requires
-    mul-if4
-    returns-4
-    prime-requires
-    returns-5)
+    returns returns-2 (λ c κs. search needs) (λ c. search needs) returns-3 (λ c. search needs) (λ c κs. search needs) mul-if4 returns-4
+    (λ c κs. search needs) returns-5)

@@ -29,20 +29,8 @@ first l = l .before .before .before
 last : (l : tie.Else2) → ¬ (here (first l .before) .layer < depth (start (first l .before) .args .circuit .now))
 last l more = omega (arith, more, l .if2 .left, l .before .depth .ensures .0)
 
-cast-is-line : tie.Need-cast-is-line
-cast-is-line c = search needs
-
-cast-is-line-2 : tie.Need-cast-is-line-2
-cast-is-line-2 c = search needs
-
-is-line-requires : tie.Need-is-line-requires
-is-line-requires c κs = search needs
-
 add-round : tie.Need-add-round
 add-round c = let low = small-round _ _ _ _ (start (c .before .before) .pre) in omega arith
-
-went-on-requires : tie.Need-went-on-requires
-went-on-requires c κs = search needs
 
 returns : tie.Need-returns
 returns c =
@@ -50,17 +38,8 @@ returns c =
     let sum = sym (i .is-line .ensures) ∙ not-true (c .before .before .if1 .taken) in
     goes-round _ _ _ _ (start i .pre) (start i .args .coin) (start i .args .claim) sum _ (c .went-on .ensures .0) (c .went-on .ensures .1)
 
-cast-if2 : tie.Need-cast-if2
-cast-if2 c = search needs
-
-depth-requires : tie.Need-depth-requires
-depth-requires c κs = search needs
-
 add-layer : tie.Need-add-layer
 add-layer c = let low = small-layer _ _ _ _ (start (c .before .before .before .before .before) .pre) in omega arith
-
-went-on-requires-2 : tie.Need-went-on-requires-2
-went-on-requires-2 c κs = search needs
 
 returns-2 : tie.Need-returns-2
 returns-2 c =
@@ -69,12 +48,6 @@ returns-2 c =
     let a = start (e .before) .args in
     goes-layer _ _ _ _ (start (e .before) .pre) (a .coin) (a .claim) (line e) (omega (arith, more .if2 .taken, more .before .depth .ensures .0))
     _ (c .went-on2 .ensures .0) (c .went-on2 .ensures .1)
-
-input-agrees-requires : tie.Need-input-agrees-requires
-input-agrees-requires c κs = search needs
-
-ended-requires : tie.Need-ended-requires
-ended-requires c κs = search needs
 
 returns-3 : tie.Need-returns-3
 returns-3 c =
@@ -96,18 +69,5 @@ pub go-on-spec : {M : Type 1} → statement M
 go-on-spec =
     tie.close
     (tie.spec
-    cast-is-line
-    cast-is-line-2
-    is-line-requires
-    add-round
-    went-on-requires
-    returns
-    cast-if2
-    depth-requires
-    add-layer
-    went-on-requires-2
-    returns-2
-    ended-requires
-    input-agrees-requires
-    returns-3
-    returns-4)
+    (λ c. search needs) (λ c. search needs) (λ c κs. search needs) add-round (λ c κs. search needs) returns (λ c. search needs)
+    (λ c κs. search needs) add-layer (λ c κs. search needs) returns-2 (λ c κs. search needs) (λ c κs. search needs) returns-3 returns-4)

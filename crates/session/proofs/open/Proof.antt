@@ -27,33 +27,15 @@ legal t = legal-lists (start t .args .circuit .now) (start t .args .input .now) 
 below : (e : tie.Else1) → start (e .before .before) .args .output < primeOf (start (e .before .before) .args .circuit .now)
 below e = omega (arith, e .if1 .left, e .before .prime .ensures)
 
-check-lists-requires : tie.Need-check-lists-requires
-check-lists-requires c κs = search needs
-
-enum-known-lists : tie.Need-enum-known-lists
-enum-known-lists c = search needs
-
 returns : tie.Need-returns
 returns c =
     let told = c .before .lists .given in
     open-lists _ _ _ _ (told .0 .0) (sym (ap causeOf (told .1)) ∙ c .before .before .before .check-lists .ensures)
 
-enum-told : tie.Need-enum-told
-enum-told c = search needs
-
-prime-requires : tie.Need-prime-requires
-prime-requires c κs = search needs
-
 returns-2 : tie.Need-returns-2
 returns-2 c =
     let t = c .before .before in
     open-output _ _ (start t .args .output) (start t .args .coins .now) (none t) (omega (arith, c .if1 .taken, c .before .prime .ensures))
-
-check-coins-requires : tie.Need-check-coins-requires
-check-coins-requires c κs = search needs
-
-enum-known-taken : tie.Need-enum-known-taken
-enum-known-taken c = search needs
 
 returns-3 : tie.Need-returns-3
 returns-3 c =
@@ -62,9 +44,6 @@ returns-3 c =
     let said = c .before .taken .given in
     open-coins _ _ (start t .args .output) (start t .args .coins .now) (none t) (below e) (said .0 .0)
     (sym (ap causeOf (said .1)) ∙ c .before .before .before .check-coins .ensures (legal t))
-
-enum-told-2 : tie.Need-enum-told-2
-enum-told-2 c = search needs
 
 returns-4 : tie.Need-returns-4
 returns-4 c =
@@ -77,14 +56,5 @@ pub open-spec : {M : Type 1} → statement M
 open-spec =
     tie.close
     (tie.spec
-    check-lists-requires
-    enum-known-lists
-    returns
-    enum-told
-    prime-requires
-    returns-2
-    check-coins-requires
-    enum-known-taken
-    returns-3
-    enum-told-2
-    returns-4)
+    (λ c κs. search needs) (λ c. search needs) returns (λ c. search needs) (λ c κs. search needs) returns-2 (λ c κs. search needs)
+    (λ c. search needs) returns-3 (λ c. search needs) returns-4)

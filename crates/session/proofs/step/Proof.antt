@@ -50,32 +50,11 @@ free k = sym (ap causeOf (k .enum-told2 .given .1)) ∙ k .before .before .check
 suits : (e : tie.Else1) → recordFits (l (listed (e .before .before))) (recordOf (start (listed (e .before .before)) .args .session)) ≡ true
 suits e = sym (e .before .fits2 .ensures) ∙ not-false (e .if1 .left)
 
-check-lists-requires : tie.Need-check-lists-requires
-check-lists-requires c κs = search needs
-
-enum-known-lists : tie.Need-enum-known-lists
-enum-known-lists c = search needs
-
-left-requires : tie.Need-left-requires
-left-requires c κs = search needs
-
 returns : tie.Need-returns
 returns c =
     let told = c .before .before .lists .given in
     left-lists _ _ _ _ _ (told .0 .0) _ (c .left .ensures .0) (c .left .ensures .1)
     (sym (ap causeOf (told .1)) ∙ c .before .before .before .before .check-lists .ensures)
-
-enum-told : tie.Need-enum-told
-enum-told c = search needs
-
-check-coins-requires : tie.Need-check-coins-requires
-check-coins-requires c κs = search needs
-
-enum-known-taken : tie.Need-enum-known-taken
-enum-known-taken c = search needs
-
-left-requires-2 : tie.Need-left-requires-2
-left-requires-2 c κs = search needs
 
 returns-2 : tie.Need-returns-2
 returns-2 c =
@@ -84,14 +63,8 @@ returns-2 c =
     left-coins _ _ _ _ _ (told .0 .0) _ (c .left2 .ensures .0) (c .left2 .ensures .1) (none t)
     (sym (ap causeOf (told .1)) ∙ c .before .before .before .before .check-coins .ensures (legal t))
 
-enum-told-2 : tie.Need-enum-told-2
-enum-told-2 c = search needs
-
 fits-requires : tie.Need-fits-requires
 fits-requires c κs = legal (listed c)
-
-left-requires-3 : tie.Need-left-requires-3
-left-requires-3 c κs = search needs
 
 returns-3 : tie.Need-returns-3
 returns-3 c =
@@ -113,18 +86,5 @@ pub step-spec : {M : Type 1} → statement M
 step-spec =
     tie.close
     (tie.spec
-    check-lists-requires
-    enum-known-lists
-    left-requires
-    returns
-    enum-told
-    check-coins-requires
-    enum-known-taken
-    left-requires-2
-    returns-2
-    enum-told-2
-    fits-requires
-    left-requires-3
-    returns-3
-    step-open-requires
-    returns-4)
+    (λ c κs. search needs) (λ c. search needs) (λ c κs. search needs) returns (λ c. search needs) (λ c κs. search needs) (λ c. search needs)
+    (λ c κs. search needs) returns-2 (λ c. search needs) fits-requires (λ c κs. search needs) returns-3 step-open-requires returns-4)

@@ -46,15 +46,6 @@ module _ (n : Numbered) where
   spot : AtRound l here (length (take number cs))
   spot = at-round _ _ _ _ (start n .pre) number number-is
 
-cast-layer : tie.Need-cast-layer
-cast-layer c = search needs
-
-cast-round : tie.Need-cast-round
-cast-round c = search needs
-
-coins-before-requires : tie.Need-coins-before-requires
-coins-before-requires c κs = search needs
-
 add-n : tie.Need-add-n
 add-n c = let few = coins-few _ _ _ _ (start c .pre) _ (number-is c) in omega arith
 
@@ -64,15 +55,6 @@ slice-aggregate-judge c =
     let there = inside n in
     sym (length-take-le (number n) (cs n) (omega arith))
 
-judge-requires : tie.Need-judge-requires
-judge-requires c κs = search needs
-
-enum-known-judged : tie.Need-enum-known-judged
-enum-known-judged c = search needs
-
-ended-requires : tie.Need-ended-requires
-ended-requires c κs = search needs
-
 returns : tie.Need-returns
 returns c =
     let judged = c .before .before .before .before in
@@ -80,9 +62,6 @@ returns c =
     let told = c .before .before .judged .given in
     refused-open _ _ _ _ (start n .pre) (number n) (number-is n) (start n .args .message .now) (told .0 .0)
     (sym (ap causeOf (told .1)) ∙ judged .judge .ensures (spot n)) _ refl (c .ended .ensures)
-
-enum-told : tie.Need-enum-told
-enum-told c = search needs
 
 mul-coin : tie.Need-mul-coin
 mul-coin c =
@@ -92,18 +71,6 @@ mul-coin c =
 
 shared-slice-read-coin : tie.Need-shared-slice-read-coin
 shared-slice-read-coin c = let there = inside (c .before .before .before .before .before) in omega arith
-
-prime-requires : tie.Need-prime-requires
-prime-requires c κs = search needs
-
-of-requires : tie.Need-of-requires
-of-requires c κs = search needs
-
-value-at-requires : tie.Need-value-at-requires
-value-at-requires c κs = search needs
-
-go-on-requires : tie.Need-go-on-requires
-go-on-requires c κs = search needs
 
 returns-2 : tie.Need-returns-2
 returns-2 c =
@@ -121,20 +88,6 @@ pub step-open-spec : {M : Type 1} → statement M
 step-open-spec =
     tie.close
     (tie.spec
-    cast-layer
-    cast-round
-    coins-before-requires
-    add-n
-    slice-aggregate-judge
-    judge-requires
-    enum-known-judged
-    ended-requires
-    returns
-    enum-told
-    mul-coin
-    shared-slice-read-coin
-    prime-requires
-    of-requires
-    value-at-requires
-    go-on-requires
-    returns-2)
+    (λ c. search needs) (λ c. search needs) (λ c κs. search needs) add-n slice-aggregate-judge (λ c κs. search needs) (λ c. search needs)
+    (λ c κs. search needs) returns (λ c. search needs) mul-coin shared-slice-read-coin (λ c κs. search needs) (λ c κs. search needs)
+    (λ c κs. search needs) (λ c κs. search needs) returns-2)

@@ -14,17 +14,11 @@ use borrow.Author.Needs.{needs}
 use Rattle.standing.proofs.at_round.Statement.{statement}
 use Rattle.standing.proofs.at_round.Tie as tie
 
-nothing-requires : tie.Need-nothing-requires
-nothing-requires c κs = search needs
-
 returns : tie.Need-returns
 returns c = record {
   within = nothing-within _ (c .nothing .ensures);
   stands = λ h. absurd (let some = h .first in omega (arith, some, c .before .if1 .taken));
 }
-
-nothing-requires-2 : tie.Need-nothing-requires-2
-nothing-requires-2 c κs = search needs
 
 returns-2 : tie.Need-returns-2
 returns-2 c = record {
@@ -32,68 +26,8 @@ returns-2 c = record {
   stands = λ h. absurd (let size = h .counted in omega (arith, size, c .before .if2 .taken));
 }
 
-exponent-requires : tie.Need-exponent-requires
-exponent-requires c κs = search needs
-
-cast-least : tie.Need-cast-least
-cast-least c = search needs
-
-least-requires : tie.Need-least-requires
-least-requires c κs = search needs
-
-sub-start : tie.Need-sub-start
-sub-start c = search needs
-
-least-requires-2 : tie.Need-least-requires-2
-least-requires-2 c κs = search needs
-
-add-middle : tie.Need-add-middle
-add-middle c = search needs
-
-exponent-requires-2 : tie.Need-exponent-requires-2
-exponent-requires-2 c κs = search needs
-
-cast-least-2 : tie.Need-cast-least-2
-cast-least-2 c = search needs
-
-least-requires-3 : tie.Need-least-requires-3
-least-requires-3 c κs = search needs
-
 slice-aggregate-standing-point : tie.Need-slice-aggregate-standing-point
 slice-aggregate-standing-point c = sym (length-take-le _ _ (search needs))
-
-standing-point-requires : tie.Need-standing-point-requires
-standing-point-requires c κs = search needs
-
-mul-row : tie.Need-mul-row
-mul-row c = search needs
-
-sub-row : tie.Need-sub-row
-sub-row c = search needs
-
-part-row-start : tie.Need-part-row-start
-part-row-start c = search needs
-
-part-row-end : tie.Need-part-row-end
-part-row-end c = search needs
-
-row-requires : tie.Need-row-requires
-row-requires c κs = search needs
-
-mul-row-2 : tie.Need-mul-row-2
-mul-row-2 c = search needs
-
-sub-row-2 : tie.Need-sub-row-2
-sub-row-2 c = search needs
-
-part-row-start-2 : tie.Need-part-row-start-2
-part-row-start-2 c = search needs
-
-part-row-end-2 : tie.Need-part-row-end-2
-part-row-end-2 c = search needs
-
-row-requires-2 : tie.Need-row-requires-2
-row-requires-2 c κs = search needs
 
 returns-3 : tie.Need-returns-3
 returns-3 c =
@@ -124,29 +58,7 @@ pub at-round-spec : {M : Type 1} → statement M
 at-round-spec =
     tie.close
     (tie.spec
-    nothing-requires
-    returns
-    nothing-requires-2
-    returns-2
-    exponent-requires
-    cast-least
-    least-requires
-    sub-start
-    least-requires-2
-    add-middle
-    exponent-requires-2
-    cast-least-2
-    least-requires-3
-    slice-aggregate-standing-point
-    standing-point-requires
-    mul-row
-    sub-row
-    part-row-start
-    part-row-end
-    row-requires
-    mul-row-2
-    sub-row-2
-    part-row-start-2
-    part-row-end-2
-    row-requires-2
-    returns-3)
+    (λ c κs. search needs) returns (λ c κs. search needs) returns-2 (λ c κs. search needs) (λ c. search needs) (λ c κs. search needs)
+    (λ c. search needs) (λ c κs. search needs) (λ c. search needs) (λ c κs. search needs) (λ c. search needs) (λ c κs. search needs)
+    slice-aggregate-standing-point (λ c κs. search needs) (λ c. search needs) (λ c. search needs) (λ c. search needs) (λ c. search needs)
+    (λ c κs. search needs) (λ c. search needs) (λ c. search needs) (λ c. search needs) (λ c. search needs) (λ c κs. search needs) returns-3)

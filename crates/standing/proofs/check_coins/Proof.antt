@@ -9,19 +9,10 @@ use borrow.Author.Needs.{needs}
 use Rattle.standing.proofs.check_coins.Statement.{statement}
 use Rattle.standing.proofs.check_coins.Tie as tie
 
-coin-count-requires : tie.Need-coin-count-requires
-coin-count-requires c κs = search needs
-
 returns : tie.Need-returns
 returns c h =
     let a = c .before .before .before .before .args in
     sym (coins-number (a .circuit .now) (a .coins .now) (λ e. c .if1 .taken (e ∙ sym (c .before .coin-count .ensures h))))
-
-prime-requires : tie.Need-prime-requires
-prime-requires c κs = search needs
-
-all-below-requires : tie.Need-all-below-requires
-all-below-requires c κs = search needs
 
 returns-2 : tie.Need-returns-2
 returns-2 c h =
@@ -42,4 +33,4 @@ returns-3 c h =
 pub check-coins-spec : {M : Type 1} → statement M
 check-coins-spec =
     tie.close
-    (tie.spec coin-count-requires returns prime-requires all-below-requires returns-2 returns-3)
+    (tie.spec (λ c κs. search needs) returns (λ c κs. search needs) (λ c κs. search needs) returns-2 returns-3)

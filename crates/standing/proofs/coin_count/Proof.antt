@@ -9,18 +9,6 @@ use borrow.Author.Needs.{needs}
 use Rattle.standing.proofs.coin_count.Statement.{statement}
 use Rattle.standing.proofs.coin_count.Tie as tie
 
-exponent-requires : tie.Need-exponent-requires
-exponent-requires c κs = search needs
-
-depth-requires : tie.Need-depth-requires
-depth-requires c κs = search needs
-
-add-sum-layers : tie.Need-add-sum-layers
-add-sum-layers c = search needs
-
-sum-layers-requires : tie.Need-sum-layers-requires
-sum-layers-requires c κs = search needs
-
 returns : tie.Need-returns
 returns c h =
     let start = c .before .before .before .before in
@@ -30,4 +18,4 @@ returns c h =
     ∙ ap (λ (k : ℕ). k + layerSum 2 (exponents l)) (first .ensures) ∙ sum-coins l
 
 pub coin-count-spec : {M : Type 1} → statement M
-coin-count-spec = tie.close (tie.spec exponent-requires depth-requires add-sum-layers sum-layers-requires returns)
+coin-count-spec = tie.close (tie.spec (λ c κs. search needs) (λ c κs. search needs) (λ c. search needs) (λ c κs. search needs) returns)

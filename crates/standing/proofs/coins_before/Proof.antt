@@ -10,12 +10,6 @@ use borrow.Author.Needs.{needs}
 use Rattle.standing.proofs.coins_before.Statement.{statement}
 use Rattle.standing.proofs.coins_before.Tie as tie
 
-exponent-requires : tie.Need-exponent-requires
-exponent-requires c κs = search needs
-
-sum-layers-requires : tie.Need-sum-layers-requires
-sum-layers-requires c κs = search needs
-
 returns : tie.Need-returns
 returns c h =
     let start = c .before .before .before in
@@ -25,4 +19,4 @@ returns c h =
     ∙ sum-start l (start .args .layer) h
 
 pub coins-before-spec : {M : Type 1} → statement M
-coins-before-spec = tie.close (tie.spec exponent-requires sum-layers-requires returns)
+coins-before-spec = tie.close (tie.spec (λ c κs. search needs) (λ c κs. search needs) returns)

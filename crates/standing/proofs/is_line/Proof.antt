@@ -7,17 +7,8 @@ use borrow.Author.Needs.{needs}
 use Rattle.standing.proofs.is_line.Statement.{statement}
 use Rattle.standing.proofs.is_line.Tie as tie
 
-exponent-requires : tie.Need-exponent-requires
-exponent-requires c κs = search needs
-
-cast-result : tie.Need-cast-result
-cast-result c = search needs
-
-mul-result : tie.Need-mul-result
-mul-result c = search needs
-
 returns : tie.Need-returns
 returns c = ap (λ (k : ℕ). eqb (c .before .before .args .round) (2 * k)) (c .exponent .ensures)
 
 pub is-line-spec : {M : Type 1} → statement M
-is-line-spec = tie.close (tie.spec exponent-requires cast-result mul-result returns)
+is-line-spec = tie.close (tie.spec (λ c κs. search needs) (λ c. search needs) (λ c. search needs) returns)

@@ -8,18 +8,6 @@ use borrow.Author.Needs.{needs}
 use Rattle.standing.proofs.message_length.Statement.{statement}
 use Rattle.standing.proofs.message_length.Tie as tie
 
-is-line-requires : tie.Need-is-line-requires
-is-line-requires c κs = search needs
-
-exponent-requires : tie.Need-exponent-requires
-exponent-requires c κs = search needs
-
-cast-result : tie.Need-cast-result
-cast-result c = search needs
-
-add-result : tie.Need-add-result
-add-result c = search needs
-
 returns : tie.Need-returns
 returns c =
     let told = c .before .before .is-line in
@@ -36,4 +24,4 @@ returns-2 c =
 pub message-length-spec : {M : Type 1} → statement M
 message-length-spec =
     tie.close
-    (tie.spec is-line-requires exponent-requires cast-result add-result returns returns-2)
+    (tie.spec (λ c κs. search needs) (λ c κs. search needs) (λ c. search needs) (λ c. search needs) returns returns-2)

@@ -6,19 +6,10 @@ use borrow.Author.Needs.{needs}
 use Rattle.standing.proofs.message_words.Statement.{statement}
 use Rattle.standing.proofs.message_words.Tie as tie
 
-depth-requires : tie.Need-depth-requires
-depth-requires c κs = search needs
-
-add-sum-layers : tie.Need-add-sum-layers
-add-sum-layers c = search needs
-
-sum-layers-requires : tie.Need-sum-layers-requires
-sum-layers-requires c κs = search needs
-
 returns : tie.Need-returns
 returns c h =
     let l = c .before .before .before .args .circuit .now in
     sum-whole l 0 7 h _ _ (c .before .depth .ensures .0) (c .sum-layers .ensures) ∙ sum-words l
 
 pub message-words-spec : {M : Type 1} → statement M
-message-words-spec = tie.close (tie.spec depth-requires add-sum-layers sum-layers-requires returns)
+message-words-spec = tie.close (tie.spec (λ c κs. search needs) (λ c. search needs) (λ c κs. search needs) returns)

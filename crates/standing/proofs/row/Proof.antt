@@ -8,16 +8,10 @@ use Rattle.extension.specs.Limits.{rowLength}
 use Rattle.standing.proofs.row.Statement.{statement}
 use Rattle.standing.proofs.row.Tie as tie
 
-slice-aggregate-put : tie.Need-slice-aggregate-put
-slice-aggregate-put c = search needs
-
-put-requires : tie.Need-put-requires
-put-requires c κs = search needs
-
 returns : tie.Need-returns
 returns c =
     let l = c .before .before .before .before .args .coordinates .now in
     front-put rowLength l (replicate {A = ℕ} rowLength 0) _ (length-replicate {A = ℕ} rowLength 0) (c .before .put .ensures)
 
 pub row-spec : {M : Type 1} → statement M
-row-spec = tie.close (tie.spec slice-aggregate-put put-requires returns)
+row-spec = tie.close (tie.spec (λ c. search needs) (λ c κs. search needs) returns)

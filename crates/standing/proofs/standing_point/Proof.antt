@@ -12,28 +12,10 @@ use borrow.Author.Needs.{needs}
 use Rattle.standing.proofs.standing_point.Statement.{statement}
 use Rattle.standing.proofs.standing_point.Tie as tie
 
-row-requires : tie.Need-row-requires
-row-requires c κs = search needs
-
 returns : tie.Need-returns
 returns c h =
     let start = c .before .before .before .before in
     first-row _ (start .args .past .now) (start .args .layer) _ h (c .before .if1 .taken) (c .row .ensures)
-
-sub-exponent : tie.Need-sub-exponent
-sub-exponent c = search needs
-
-exponent-requires : tie.Need-exponent-requires
-exponent-requires c κs = search needs
-
-cast-k : tie.Need-cast-k
-cast-k c = search needs
-
-mul-if2 : tie.Need-mul-if2
-mul-if2 c = search needs
-
-add-if2 : tie.Need-add-if2
-add-if2 c = search needs
 
 returns-2 : tie.Need-returns-2
 returns-2 c h =
@@ -41,60 +23,6 @@ returns-2 c h =
     let k = c .before .exponent in
     let enough = standing-enough _ (start .args .past .now) (start .args .layer) (k .result) h (c .before .before .if1 .left) (k .ensures) in
     absurd (omega (arith, enough, c .if2 .taken))
-
-sub-t : tie.Need-sub-t
-sub-t c = search needs
-
-sub-v : tie.Need-sub-v
-sub-v c = search needs
-
-sub-u : tie.Need-sub-u
-sub-u c = search needs
-
-mul-row : tie.Need-mul-row
-mul-row c = search needs
-
-sub-row : tie.Need-sub-row
-sub-row c = search needs
-
-part-row-start : tie.Need-part-row-start
-part-row-start c = search needs
-
-part-row-end : tie.Need-part-row-end
-part-row-end c = search needs
-
-row-requires-2 : tie.Need-row-requires-2
-row-requires-2 c κs = search needs
-
-mul-row-2 : tie.Need-mul-row-2
-mul-row-2 c = search needs
-
-sub-row-2 : tie.Need-sub-row-2
-sub-row-2 c = search needs
-
-part-row-start-2 : tie.Need-part-row-start-2
-part-row-start-2 c = search needs
-
-part-row-end-2 : tie.Need-part-row-end-2
-part-row-end-2 c = search needs
-
-row-requires-3 : tie.Need-row-requires-3
-row-requires-3 c κs = search needs
-
-prime-requires : tie.Need-prime-requires
-prime-requires c κs = search needs
-
-of-requires : tie.Need-of-requires
-of-requires c κs = search needs
-
-mul-line-point : tie.Need-mul-line-point
-mul-line-point c = search needs
-
-shared-slice-read-line-point : tie.Need-shared-slice-read-line-point
-shared-slice-read-line-point c = search needs
-
-line-point-requires : tie.Need-line-point-requires
-line-point-requires c κs = search needs
 
 returns-3 : tie.Need-returns-3
 returns-3 c h =
@@ -113,30 +41,8 @@ pub standing-point-spec : {M : Type 1} → statement M
 standing-point-spec =
     tie.close
     (tie.spec
-    row-requires
-    returns
-    sub-exponent
-    exponent-requires
-    cast-k
-    mul-if2
-    add-if2
-    returns-2
-    sub-t
-    sub-v
-    sub-u
-    mul-row
-    sub-row
-    part-row-start
-    part-row-end
-    row-requires-2
-    mul-row-2
-    sub-row-2
-    part-row-start-2
-    part-row-end-2
-    row-requires-3
-    prime-requires
-    of-requires
-    mul-line-point
-    shared-slice-read-line-point
-    line-point-requires
+    (λ c κs. search needs) returns (λ c. search needs) (λ c κs. search needs) (λ c. search needs) (λ c. search needs) (λ c. search needs)
+    returns-2 (λ c. search needs) (λ c. search needs) (λ c. search needs) (λ c. search needs) (λ c. search needs) (λ c. search needs)
+    (λ c. search needs) (λ c κs. search needs) (λ c. search needs) (λ c. search needs) (λ c. search needs) (λ c. search needs)
+    (λ c κs. search needs) (λ c κs. search needs) (λ c κs. search needs) (λ c. search needs) (λ c. search needs) (λ c κs. search needs)
     returns-3)

@@ -27,15 +27,6 @@ lent o i h = let start = o .before .before .before in length-part (start .args .
 first : (o : Cut) (i : ℕ) → i < 2 → take (o .least .result) (row o i) ≡ take (o .before .before .before .args .k) (row o i)
 first o i h = let start = o .before .before .before in part-of-row (start .args .t4) _ i (start .args .k) _ (start .good .1 .1 .1 .0) h (o .least .ensures)
 
-least-requires : tie.Need-least-requires
-least-requires c κs = search needs
-
-array-copy-out-u : tie.Need-array-copy-out-u
-array-copy-out-u c = search needs
-
-array-copy-out-v : tie.Need-array-copy-out-v
-array-copy-out-v c = search needs
-
 array-share-prefix-u : tie.Need-array-share-prefix-u
 array-share-prefix-u c = holds (c .before .before) 0 (omega arith)
 
@@ -48,12 +39,6 @@ array-share-prefix-v c = holds (c .before .before .before) 1 (omega arith)
 slice-aggregate-wirings-2 : tie.Need-slice-aggregate-wirings-2
 slice-aggregate-wirings-2 c = lent (c .before .before .before .before) 1 (omega arith)
 
-wirings-requires : tie.Need-wirings-requires
-wirings-requires c κs = search needs
-
-by-kinds-requires : tie.Need-by-kinds-requires
-by-kinds-requires c κs = search needs
-
 returns : tie.Need-returns
 returns c =
     let cut = c .before .before .before .before .before .before in
@@ -63,13 +48,5 @@ pub combined-spec : {M : Type 1} → statement M
 combined-spec =
     tie.close
     (tie.spec
-    least-requires
-    array-copy-out-u
-    array-copy-out-v
-    array-share-prefix-u
-    slice-aggregate-wirings
-    array-share-prefix-v
-    slice-aggregate-wirings-2
-    wirings-requires
-    by-kinds-requires
-    returns)
+    (λ c κs. search needs) (λ c. search needs) (λ c. search needs) array-share-prefix-u slice-aggregate-wirings array-share-prefix-v
+    slice-aggregate-wirings-2 (λ c κs. search needs) (λ c κs. search needs) returns)

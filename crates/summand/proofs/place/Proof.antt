@@ -6,17 +6,8 @@ use Rattle.summand.proofs.Sums.{place-is}
 use Rattle.summand.proofs.place.Statement.{statement}
 use Rattle.summand.proofs.place.Tie as tie
 
-returns : tie.Need-returns
-returns c = search needs
-
-sub-least : tie.Need-sub-least
-sub-least c = search needs
-
-least-requires : tie.Need-least-requires
-least-requires c κs = search needs
-
 returns-2 : tie.Need-returns-2
 returns-2 c = c .least .ensures ∙ place-is _ (c .before .if1 .left)
 
 pub place-spec : {M : Type 1} → statement M
-place-spec = tie.close (tie.spec returns sub-least least-requires returns-2)
+place-spec = tie.close (tie.spec (λ c. search needs) (λ c. search needs) (λ c κs. search needs) returns-2)

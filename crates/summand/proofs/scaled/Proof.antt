@@ -14,11 +14,5 @@ returns c =
     let p : ℕ = modulus (a .f) in
     sym (ap (λ (d : ℕ). (a .t * d) % p) (c .if1 .taken) ∙ ap (λ (n : ℕ). n % p) (mul-zero (a .t)) ∙ zero-mod p)
 
-mul-requires : tie.Need-mul-requires
-mul-requires c κs = search needs
-
-returns-2 : tie.Need-returns-2
-returns-2 c = search needs
-
 pub scaled-spec : {M : Type 1} → statement M
-scaled-spec = tie.close (tie.spec returns mul-requires returns-2)
+scaled-spec = tie.close (tie.spec returns (λ c κs. search needs) (λ c. search needs))

@@ -14,9 +14,6 @@ returns c =
     let p : ℕ = modulus (args .f) in
     ap (λ (n : ℕ). n % p) (sym (ap (λ (n : ℕ). args .left * n) (c .if1 .taken) ∙ mul-one (args .left)))
 
-mul-requires : tie.Need-mul-requires
-mul-requires c κs = search needs
-
 returns-2 : tie.Need-returns-2
 returns-2 c =
     let args = c .before .before .args in
@@ -24,4 +21,4 @@ returns-2 c =
     ap (λ (n : ℕ). n % p) (c .mul .ensures) ∙ mod-mod (args .left * args .right) p
 
 pub both-shares-spec : {M : Type 1} → statement M
-both-shares-spec = tie.close (tie.spec returns mul-requires returns-2)
+both-shares-spec = tie.close (tie.spec returns (λ c κs. search needs) returns-2)

@@ -14,30 +14,6 @@ use Rattle.sums.proofs.Fronts.{cut-fits, width-within, values-within, l
 use Rattle.sums.proofs.by_points.Statement.{statement}
 use Rattle.sums.proofs.by_points.Tie as tie
 
-least-requires : tie.Need-least-requires
-least-requires c κs = search needs
-
-cut-at-requires : tie.Need-cut-at-requires
-cut-at-requires c κs = search needs
-
-slice-aggregate-weights : tie.Need-slice-aggregate-weights
-slice-aggregate-weights c = search needs
-
-weights-requires : tie.Need-weights-requires
-weights-requires c κs = search needs
-
-slice-aggregate-folded : tie.Need-slice-aggregate-folded
-slice-aggregate-folded c = search needs
-
-folded-requires : tie.Need-folded-requires
-folded-requires c κs = search needs
-
-cast-width : tie.Need-cast-width
-cast-width c = search needs
-
-width-requires : tie.Need-width-requires
-width-requires c κs = search needs
-
 array-share-prefix-shares : tie.Need-array-share-prefix-shares
 array-share-prefix-shares c =
     let made = c .before .before .before .before .before in
@@ -47,9 +23,6 @@ slice-aggregate-by-side : tie.Need-slice-aggregate-by-side
 slice-aggregate-by-side c =
     let made = c .before .before .before .before .before .before in
     lent _ _ (width-within _ _ _ _ (made .weights .ensures .whole refl) (c .before .width .ensures))
-
-shr-table : tie.Need-shr-table
-shr-table c = search needs
 
 array-share-prefix-table : tie.Need-array-share-prefix-table
 array-share-prefix-table c =
@@ -92,18 +65,6 @@ pub by-points-spec : {M : Type 1} → statement M
 by-points-spec =
     tie.close
     (tie.spec
-    least-requires
-    cut-at-requires
-    slice-aggregate-weights
-    weights-requires
-    slice-aggregate-folded
-    folded-requires
-    cast-width
-    width-requires
-    array-share-prefix-shares
-    slice-aggregate-by-side
-    shr-table
-    array-share-prefix-table
-    slice-aggregate-by-side-2
-    by-side-requires
-    returns)
+    (λ c κs. search needs) (λ c κs. search needs) (λ c. search needs) (λ c κs. search needs) (λ c. search needs) (λ c κs. search needs)
+    (λ c. search needs) (λ c κs. search needs) array-share-prefix-shares slice-aggregate-by-side (λ c. search needs)
+    array-share-prefix-table slice-aggregate-by-side-2 by-side-requires returns)

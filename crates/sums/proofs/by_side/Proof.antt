@@ -14,15 +14,6 @@ use Rattle.sums.proofs.Fronts.{cut-fits, width-within, values-within, l
 use Rattle.sums.proofs.by_side.Statement.{statement}
 use Rattle.sums.proofs.by_side.Tie as tie
 
-least-requires : tie.Need-least-requires
-least-requires c κs = search needs
-
-cut-at-requires : tie.Need-cut-at-requires
-cut-at-requires c κs = search needs
-
-slice-aggregate-by-gates : tie.Need-slice-aggregate-by-gates
-slice-aggregate-by-gates c = search needs
-
 slice-aggregate-by-gates-2 : tie.Need-slice-aggregate-by-gates-2
 slice-aggregate-by-gates-2 c =
     let at = c .before .before .before in
@@ -44,24 +35,6 @@ returns c =
     (open-side (modulus (args .f)) (args .k) (args .second) _ (args .next) (args .values .now) (args .v) _
     (c .before .before .before .if1 .taken) (at .cut-at .ensures) (at .before .least .ensures))
 
-slice-aggregate-weights : tie.Need-slice-aggregate-weights
-slice-aggregate-weights c = search needs
-
-weights-requires : tie.Need-weights-requires
-weights-requires c κs = search needs
-
-slice-aggregate-folded : tie.Need-slice-aggregate-folded
-slice-aggregate-folded c = search needs
-
-folded-requires : tie.Need-folded-requires
-folded-requires c κs = search needs
-
-cast-width : tie.Need-cast-width
-cast-width c = search needs
-
-width-requires : tie.Need-width-requires
-width-requires c κs = search needs
-
 array-share-prefix-rshares : tie.Need-array-share-prefix-rshares
 array-share-prefix-rshares c =
     let made = c .before .before .before .before .before in
@@ -71,9 +44,6 @@ slice-aggregate-by-gates-3 : tie.Need-slice-aggregate-by-gates-3
 slice-aggregate-by-gates-3 c =
     let made = c .before .before .before .before .before .before in
     lent _ _ (width-within _ _ _ _ (made .weights .ensures .whole refl) (c .before .width .ensures))
-
-shr-rtable : tie.Need-shr-rtable
-shr-rtable c = search needs
 
 array-share-prefix-rtable : tie.Need-array-share-prefix-rtable
 array-share-prefix-rtable c =
@@ -115,22 +85,7 @@ pub by-side-spec : {M : Type 1} → statement M
 by-side-spec =
     tie.close
     (tie.spec
-    least-requires
-    cut-at-requires
-    slice-aggregate-by-gates
-    slice-aggregate-by-gates-2
-    by-gates-requires
-    returns
-    slice-aggregate-weights
-    weights-requires
-    slice-aggregate-folded
-    folded-requires
-    cast-width
-    width-requires
-    array-share-prefix-rshares
-    slice-aggregate-by-gates-3
-    shr-rtable
-    array-share-prefix-rtable
-    slice-aggregate-by-gates-4
-    by-gates-requires-2
-    returns-2)
+    (λ c κs. search needs) (λ c κs. search needs) (λ c. search needs) slice-aggregate-by-gates-2 by-gates-requires returns
+    (λ c. search needs) (λ c κs. search needs) (λ c. search needs) (λ c κs. search needs) (λ c. search needs) (λ c κs. search needs)
+    array-share-prefix-rshares slice-aggregate-by-gates-3 (λ c. search needs) array-share-prefix-rtable slice-aggregate-by-gates-4
+    by-gates-requires-2 returns-2)

@@ -8,21 +8,6 @@ use borrow.Author.Needs.{needs}
 use Rattle.sums.proofs.count_gate.Statement.{statement}
 use Rattle.sums.proofs.count_gate.Tie as tie
 
-both-shares-requires : tie.Need-both-shares-requires
-both-shares-requires c κs = search needs
-
-mul-requires : tie.Need-mul-requires
-mul-requires c κs = search needs
-
-gate-value-requires : tie.Need-gate-value-requires
-gate-value-requires c κs = search needs
-
-gate-value-requires-2 : tie.Need-gate-value-requires-2
-gate-value-requires-2 c κs = search needs
-
-sub-requires : tie.Need-sub-requires
-sub-requires c κs = search needs
-
 returns : tie.Need-returns
 returns c =
     let shared = c .before .before .before .before in
@@ -42,10 +27,4 @@ pub count-gate-spec : {M : Type 1} → statement M
 count-gate-spec =
     tie.close
     (tie.spec
-    both-shares-requires
-    mul-requires
-    gate-value-requires
-    gate-value-requires-2
-    sub-requires
-    returns
-    returns-2)
+    (λ c κs. search needs) (λ c κs. search needs) (λ c κs. search needs) (λ c κs. search needs) (λ c κs. search needs) returns returns-2)

@@ -8,15 +8,6 @@ use borrow.Author.Needs.{needs}
 use Rattle.sums.proofs.cut_at.Statement.{statement}
 use Rattle.sums.proofs.cut_at.Tie as tie
 
-sub-free : tie.Need-sub-free
-sub-free c = search needs
-
-cast-width : tie.Need-cast-width
-cast-width c = search needs
-
-width-requires : tie.Need-width-requires
-width-requires c κs = search needs
-
 returns : tie.Need-returns
 returns c =
     let size = c .before .width .ensures ∙ width-of _ (search needs) in
@@ -29,4 +20,4 @@ returns-2 c =
     record { free = refl; size = size; half = ap (λ (t : Bool). cond t (2 ^ (args .k - args .fixed) / 2) 0) (sym (c .if1 .left)) }
 
 pub cut-at-spec : {M : Type 1} → statement M
-cut-at-spec = tie.close (tie.spec sub-free cast-width width-requires returns returns-2)
+cut-at-spec = tie.close (tie.spec (λ c. search needs) (λ c. search needs) (λ c κs. search needs) returns returns-2)

@@ -12,9 +12,6 @@ use borrow.Author.Needs.{needs}
 use Rattle.sums.proofs.read_wire.Statement.{statement}
 use Rattle.sums.proofs.read_wire.Tie as tie
 
-shr-high : tie.Need-shr-high
-shr-high c = search needs
-
 mul-low : tie.Need-mul-low
 mul-low c =
     let start = c .before .before .before .before in
@@ -32,15 +29,6 @@ add-up c =
     let fits = start .pre in
     let wide = width-le (start .args .c .free) (fits .free) in
     search needs
-
-word-requires : tie.Need-word-requires
-word-requires c κs = search needs
-
-word-requires-2 : tie.Need-word-requires-2
-word-requires-2 c κs = search needs
-
-word-requires-3 : tie.Need-word-requires-3
-word-requires-3 c κs = search needs
 
 returns : tie.Need-returns
 returns c =
@@ -62,11 +50,4 @@ pub read-wire-spec : {M : Type 1} → statement M
 read-wire-spec =
     tie.close
     (tie.spec
-    shr-high
-    mul-low
-    sub-low
-    add-up
-    word-requires
-    word-requires-2
-    word-requires-3
-    returns)
+    (λ c. search needs) mul-low sub-low add-up (λ c κs. search needs) (λ c κs. search needs) (λ c κs. search needs) returns)

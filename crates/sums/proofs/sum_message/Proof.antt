@@ -17,39 +17,6 @@ use Rattle.sums.proofs.Fronts.{width-within, lent, round-is}
 use Rattle.sums.proofs.sum_message.Statement.{statement}
 use Rattle.sums.proofs.sum_message.Tie as tie
 
-least-requires : tie.Need-least-requires
-least-requires c κs = search needs
-
-least-requires-2 : tie.Need-least-requires-2
-least-requires-2 c κs = search needs
-
-sub-least : tie.Need-sub-least
-sub-least c = search needs
-
-least-requires-3 : tie.Need-least-requires-3
-least-requires-3 c κs = search needs
-
-least-requires-4 : tie.Need-least-requires-4
-least-requires-4 c κs = search needs
-
-cast-width : tie.Need-cast-width
-cast-width c = search needs
-
-width-requires : tie.Need-width-requires
-width-requires c κs = search needs
-
-slice-aggregate-weights : tie.Need-slice-aggregate-weights
-slice-aggregate-weights c = search needs
-
-weights-requires : tie.Need-weights-requires
-weights-requires c κs = search needs
-
-array-copy-out-u : tie.Need-array-copy-out-u
-array-copy-out-u c = search needs
-
-array-copy-out-v : tie.Need-array-copy-out-v
-array-copy-out-v c = search needs
-
 array-share-prefix-weights : tie.Need-array-share-prefix-weights
 array-share-prefix-weights c =
     let listed = c .before .before .before in
@@ -59,9 +26,6 @@ slice-aggregate-by-points : tie.Need-slice-aggregate-by-points
 slice-aggregate-by-points c =
     let listed = c .before .before .before .before in
     lent _ _ (width-within _ _ _ _ (listed .weights2 .ensures .whole refl) (listed .before .before .width .ensures))
-
-by-points-requires : tie.Need-by-points-requires
-by-points-requires c κs = search needs
 
 returns : tie.Need-returns
 returns c =
@@ -85,18 +49,6 @@ pub sum-message-spec : {M : Type 1} → statement M
 sum-message-spec =
     tie.close
     (tie.spec
-    least-requires
-    least-requires-2
-    sub-least
-    least-requires-3
-    least-requires-4
-    cast-width
-    width-requires
-    slice-aggregate-weights
-    weights-requires
-    array-copy-out-u
-    array-copy-out-v
-    array-share-prefix-weights
-    slice-aggregate-by-points
-    by-points-requires
-    returns)
+    (λ c κs. search needs) (λ c κs. search needs) (λ c. search needs) (λ c κs. search needs) (λ c κs. search needs) (λ c. search needs)
+    (λ c κs. search needs) (λ c. search needs) (λ c κs. search needs) (λ c. search needs) (λ c. search needs) array-share-prefix-weights
+    slice-aggregate-by-points (λ c κs. search needs) returns)

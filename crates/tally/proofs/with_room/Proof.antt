@@ -8,15 +8,6 @@ use borrow.Author.Needs.{needs}
 use Rattle.tally.proofs.with_room.Statement.{statement}
 use Rattle.tally.proofs.with_room.Tie as tie
 
-returns : tie.Need-returns
-returns c = search needs
-
-remainder-requires : tie.Need-remainder-requires
-remainder-requires c κs = search needs
-
-cast-result : tie.Need-cast-result
-cast-result c = search needs
-
 returns-2 : tie.Need-returns-2
 returns-2 c =
     let args = c .before .before .args in
@@ -24,4 +15,4 @@ returns-2 c =
     (search needs, ap (λ (n : ℕ). n % p) (c .remainder .ensures) ∙ mod-mod (args .half) p)
 
 pub with-room-spec : {M : Type 1} → statement M
-with-room-spec = tie.close (tie.spec returns remainder-requires cast-result returns-2)
+with-room-spec = tie.close (tie.spec (λ c. search needs) (λ c κs. search needs) (λ c. search needs) returns-2)

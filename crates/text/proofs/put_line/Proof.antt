@@ -6,20 +6,11 @@ use Rattle.text.proofs.Writing.{wrote-room, wrote-within, wrote-more}
 use Rattle.text.proofs.put_line.Statement.{statement}
 use Rattle.text.proofs.put_line.Tie as tie
 
-put-requires : tie.Need-put-requires
-put-requires c κs = search needs
-
 sub-put-numbers : tie.Need-sub-put-numbers
 sub-put-numbers c = let within = wrote-within _ _ _ _ (c .before .before .put .ensures) in search needs
 
 part-put-numbers-start : tie.Need-part-put-numbers-start
 part-put-numbers-start c = let within = wrote-within _ _ _ _ (c .before .before .put .ensures) in search needs
-
-part-put-numbers-end : tie.Need-part-put-numbers-end
-part-put-numbers-end c = search needs
-
-put-numbers-requires : tie.Need-put-numbers-requires
-put-numbers-requires c κs = search needs
 
 add-last : tie.Need-add-last
 add-last c =
@@ -39,15 +30,6 @@ part-put-start c =
     let within = wrote-within _ _ _ _ (wrote-more _ _ _ _ (first .ensures) _ _ _ (c .before .before .put-numbers .ensures)) in
     search needs
 
-part-put-end : tie.Need-part-put-end
-part-put-end c = search needs
-
-slice-aggregate-put : tie.Need-slice-aggregate-put
-slice-aggregate-put c = search needs
-
-put-requires-2 : tie.Need-put-requires-2
-put-requires-2 c κs = search needs
-
 add-result : tie.Need-add-result
 add-result c =
     let first = c .before .before .before .before .before .before .before .before .before .before .before .put in
@@ -55,9 +37,6 @@ add-result c =
     let both = wrote-more _ _ _ _ (first .ensures) _ _ _ (second .ensures) in
     let room = wrote-room _ _ _ _ (wrote-more _ _ _ _ both _ _ _ (c .before .before .put2 .ensures)) in
     search needs
-
-same-length : tie.Need-same-length
-same-length c = search needs
 
 returns : tie.Need-returns
 unfolding lineText
@@ -71,17 +50,5 @@ pub put-line-spec : {M : Type 1} → statement M
 put-line-spec =
     tie.close
     (tie.spec
-    put-requires
-    sub-put-numbers
-    part-put-numbers-start
-    part-put-numbers-end
-    put-numbers-requires
-    add-last
-    sub-put
-    part-put-start
-    part-put-end
-    slice-aggregate-put
-    put-requires-2
-    add-result
-    same-length
-    returns)
+    (λ c κs. search needs) sub-put-numbers part-put-numbers-start (λ c. search needs) (λ c κs. search needs) add-last sub-put part-put-start
+    (λ c. search needs) (λ c. search needs) (λ c κs. search needs) add-result (λ c. search needs) returns)

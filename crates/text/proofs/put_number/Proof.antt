@@ -11,41 +11,17 @@ use Rattle.text.proofs.Decimal.{fewest-digits}
 use Rattle.text.proofs.put_number.Statement.{statement}
 use Rattle.text.proofs.put_number.Tie as tie
 
-decimal-requires : tie.Need-decimal-requires
-decimal-requires c κs = search needs
-
-slice-aggregate-put : tie.Need-slice-aggregate-put
-slice-aggregate-put c = search needs
-
-put-requires : tie.Need-put-requires
-put-requires c κs = search needs
-
 sub-put : tie.Need-sub-put
 sub-put c = let within = wrote-within _ _ _ _ (c .before .before .put .ensures) in search needs
 
 part-put-start : tie.Need-part-put-start
 part-put-start c = let within = wrote-within _ _ _ _ (c .before .before .put .ensures) in search needs
 
-part-put-end : tie.Need-part-put-end
-part-put-end c = search needs
-
-array-share-prefix-digits : tie.Need-array-share-prefix-digits
-array-share-prefix-digits c = search needs
-
-slice-aggregate-put-2 : tie.Need-slice-aggregate-put-2
-slice-aggregate-put-2 c = search needs
-
-put-requires-2 : tie.Need-put-requires-2
-put-requires-2 c κs = search needs
-
 add-result : tie.Need-add-result
 add-result c =
     let first = c .before .before .before .before .before .before .before .put in
     let within = wrote-within _ _ _ _ (wrote-more _ _ _ _ (first .ensures) _ _ _ (c .before .before .put2 .ensures)) in
     search needs
-
-same-length : tie.Need-same-length
-same-length c = search needs
 
 returns : tie.Need-returns
 returns c =
@@ -60,15 +36,5 @@ pub put-number-spec : {M : Type 1} → statement M
 put-number-spec =
     tie.close
     (tie.spec
-    decimal-requires
-    slice-aggregate-put
-    put-requires
-    sub-put
-    part-put-start
-    part-put-end
-    array-share-prefix-digits
-    slice-aggregate-put-2
-    put-requires-2
-    add-result
-    same-length
-    returns)
+    (λ c κs. search needs) (λ c. search needs) (λ c κs. search needs) sub-put part-put-start (λ c. search needs) (λ c. search needs)
+    (λ c. search needs) (λ c κs. search needs) add-result (λ c. search needs) returns)

@@ -19,21 +19,6 @@ written q =
     let call = q .before .before .before .prove in
     printed-proved _ _ _ _ (omega arith) _ _ _ (sym (ap provedOf (q .proved2 .given .1)) ∙ call .ensures .answer) (call .ensures .buffer)
 
-slice-aggregate-prove : tie.Need-slice-aggregate-prove
-slice-aggregate-prove c = search needs
-
-prove-requires : tie.Need-prove-requires
-prove-requires c κs = search needs
-
-enum-known-proved : tie.Need-enum-known-proved
-enum-known-proved c = search needs
-
-write-refused-requires : tie.Need-write-refused-requires
-write-refused-requires c κs = search needs
-
-enum-known-proved-2 : tie.Need-enum-known-proved-2
-enum-known-proved-2 c = search needs
-
 array-share-prefix-messages : tie.Need-array-share-prefix-messages
 array-share-prefix-messages c = written (c .before) .inside
 
@@ -45,17 +30,11 @@ write-proof-requires c κs =
     let w = written (c .before .before .before) in
     (w .legal, w .words)
 
-same-length : tie.Need-same-length
-same-length c = search needs
-
 returns : tie.Need-returns
 returns c =
     let q = c .before .before .before .before .before in
     wrote-as _ _ _ _ (c .before .before .write-refused .ensures) _
     (printed-refused _ _ _ _ (omega arith) _ (sym (ap provedOf (q .proved .given .1)) ∙ q .before .before .before .prove .ensures .answer))
-
-same-length-2 : tie.Need-same-length-2
-same-length-2 c = search needs
 
 returns-2 : tie.Need-returns-2
 returns-2 c =
@@ -65,15 +44,5 @@ pub write-lists-spec : {M : Type 1} → statement M
 write-lists-spec =
     tie.close
     (tie.spec
-    slice-aggregate-prove
-    prove-requires
-    enum-known-proved
-    write-refused-requires
-    enum-known-proved-2
-    array-share-prefix-messages
-    slice-aggregate-write-proof
-    write-proof-requires
-    same-length
-    returns
-    same-length-2
-    returns-2)
+    (λ c. search needs) (λ c κs. search needs) (λ c. search needs) (λ c κs. search needs) (λ c. search needs) array-share-prefix-messages
+    slice-aggregate-write-proof write-proof-requires (λ c. search needs) returns (λ c. search needs) returns-2)

@@ -17,31 +17,10 @@ worded : (o : tie.After-is-line) (b : Bool) → o .is-line .result ≡ b
     ≡ lineText (wordOf (a .circuit .now) (place (a .layer) (a .round))) (a .message .now)
 worded o b e = rw (sym e ∙ o .is-line .ensures)
 
-is-line-requires : tie.Need-is-line-requires
-is-line-requires c κs = search needs
-
-slice-aggregate-put-line : tie.Need-slice-aggregate-put-line
-slice-aggregate-put-line c = search needs
-
-put-line-requires : tie.Need-put-line-requires
-put-line-requires c κs = search needs
-
-same-length : tie.Need-same-length
-same-length c = search needs
-
 returns : tie.Need-returns
 returns c =
     let test = c .before .before .before .before .before in
     wrote-as _ _ _ _ (c .before .before .put-line .ensures) _ (worded (test .before) _ (test .if1 .taken))
-
-slice-aggregate-put-line-2 : tie.Need-slice-aggregate-put-line-2
-slice-aggregate-put-line-2 c = search needs
-
-put-line-requires-2 : tie.Need-put-line-requires-2
-put-line-requires-2 c κs = search needs
-
-same-length-2 : tie.Need-same-length-2
-same-length-2 c = search needs
 
 returns-2 : tie.Need-returns-2
 returns-2 c =
@@ -52,12 +31,5 @@ pub write-message-spec : {M : Type 1} → statement M
 write-message-spec =
     tie.close
     (tie.spec
-    is-line-requires
-    slice-aggregate-put-line
-    put-line-requires
-    same-length
-    returns
-    slice-aggregate-put-line-2
-    put-line-requires-2
-    same-length-2
-    returns-2)
+    (λ c κs. search needs) (λ c. search needs) (λ c κs. search needs) (λ c. search needs) returns (λ c. search needs) (λ c κs. search needs)
+    (λ c. search needs) returns-2)

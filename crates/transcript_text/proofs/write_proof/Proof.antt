@@ -5,35 +5,17 @@ use Rattle.text.proofs.Writing.{wrote-room, wrote-within, wrote-more}
 use Rattle.transcript_text.proofs.write_proof.Statement.{statement}
 use Rattle.transcript_text.proofs.write_proof.Tie as tie
 
-slice-aggregate-put-line : tie.Need-slice-aggregate-put-line
-slice-aggregate-put-line c = search needs
-
-slice-aggregate-put-line-2 : tie.Need-slice-aggregate-put-line-2
-slice-aggregate-put-line-2 c = search needs
-
-put-line-requires : tie.Need-put-line-requires
-put-line-requires c κs = search needs
-
 sub-write-messages : tie.Need-sub-write-messages
 sub-write-messages c = let within = wrote-within _ _ _ _ (c .before .before .put-line .ensures) in search needs
 
 part-write-messages-start : tie.Need-part-write-messages-start
 part-write-messages-start c = let within = wrote-within _ _ _ _ (c .before .before .put-line .ensures) in search needs
 
-part-write-messages-end : tie.Need-part-write-messages-end
-part-write-messages-end c = search needs
-
-write-messages-requires : tie.Need-write-messages-requires
-write-messages-requires c κs = search needs
-
 add-result : tie.Need-add-result
 add-result c =
     let first = c .before .before .before .before .before .before .put-line in
     let room = wrote-room _ _ _ _ (wrote-more _ _ _ _ (first .ensures) _ _ _ (c .before .before .write-messages .ensures)) in
     search needs
-
-same-length : tie.Need-same-length
-same-length c = search needs
 
 returns : tie.Need-returns
 returns c =
@@ -44,13 +26,5 @@ pub write-proof-spec : {M : Type 1} → statement M
 write-proof-spec =
     tie.close
     (tie.spec
-    slice-aggregate-put-line
-    slice-aggregate-put-line-2
-    put-line-requires
-    sub-write-messages
-    part-write-messages-start
-    part-write-messages-end
-    write-messages-requires
-    add-result
-    same-length
-    returns)
+    (λ c. search needs) (λ c. search needs) (λ c κs. search needs) sub-write-messages part-write-messages-start (λ c. search needs)
+    (λ c κs. search needs) add-result (λ c. search needs) returns)

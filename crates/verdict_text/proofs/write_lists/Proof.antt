@@ -11,35 +11,8 @@ use Rattle.verdict_text.proofs.Lists.{printed-empty, printed-checked}
 use Rattle.verdict_text.proofs.write_lists.Statement.{statement}
 use Rattle.verdict_text.proofs.write_lists.Tie as tie
 
-write-refused-requires : tie.Need-write-refused-requires
-write-refused-requires c κs = search needs
-
-same-length : tie.Need-same-length
-same-length c = search needs
-
 returns : tie.Need-returns
 returns c = wrote-as _ _ _ _ (c .before .before .write-refused .ensures) _ (printed-empty _ _ _ _ (omega arith))
-
-shared-slice-read-check : tie.Need-shared-slice-read-check
-shared-slice-read-check c = search needs
-
-sub-check : tie.Need-sub-check
-sub-check c = search needs
-
-part-check-start : tie.Need-part-check-start
-part-check-start c = search needs
-
-part-check-end : tie.Need-part-check-end
-part-check-end c = search needs
-
-check-requires : tie.Need-check-requires
-check-requires c κs = search needs
-
-write-outcome-requires : tie.Need-write-outcome-requires
-write-outcome-requires c κs = search needs
-
-same-length-2 : tie.Need-same-length-2
-same-length-2 c = search needs
 
 returns-2 : tie.Need-returns-2
 returns-2 c =
@@ -50,14 +23,5 @@ pub write-lists-spec : {M : Type 1} → statement M
 write-lists-spec =
     tie.close
     (tie.spec
-    write-refused-requires
-    same-length
-    returns
-    shared-slice-read-check
-    sub-check
-    part-check-start
-    part-check-end
-    check-requires
-    write-outcome-requires
-    same-length-2
-    returns-2)
+    (λ c κs. search needs) (λ c. search needs) returns (λ c. search needs) (λ c. search needs) (λ c. search needs) (λ c. search needs)
+    (λ c κs. search needs) (λ c κs. search needs) (λ c. search needs) returns-2)

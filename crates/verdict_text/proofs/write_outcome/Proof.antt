@@ -10,34 +10,10 @@ use Rattle.verdict_text.proofs.Lists.{printed-cause}
 use Rattle.verdict_text.proofs.write_outcome.Statement.{statement}
 use Rattle.verdict_text.proofs.write_outcome.Tie as tie
 
-enum-told : tie.Need-enum-told
-enum-told c = search needs
-
-slice-aggregate-put-line : tie.Need-slice-aggregate-put-line
-slice-aggregate-put-line c = search needs
-
-slice-aggregate-put-line-2 : tie.Need-slice-aggregate-put-line-2
-slice-aggregate-put-line-2 c = search needs
-
-put-line-requires : tie.Need-put-line-requires
-put-line-requires c κs = search needs
-
-enum-known-outcome : tie.Need-enum-known-outcome
-enum-known-outcome c = search needs
-
-write-refused-requires : tie.Need-write-refused-requires
-write-refused-requires c κs = search needs
-
-same-length : tie.Need-same-length
-same-length c = search needs
-
 returns : tie.Need-returns
 returns c =
     let told = c .before .before .before .before .before .before .enum-told .given in
     wrote-as _ _ _ _ (c .before .before .put-line .ensures) _ (ap (λ o. answerText (outcomeOf o) acceptedText) (sym (told .1)))
-
-same-length-2 : tie.Need-same-length-2
-same-length-2 c = search needs
 
 returns-2 : tie.Need-returns-2
 returns-2 c =
@@ -49,13 +25,5 @@ pub write-outcome-spec : {M : Type 1} → statement M
 write-outcome-spec =
     tie.close
     (tie.spec
-    enum-told
-    slice-aggregate-put-line
-    slice-aggregate-put-line-2
-    put-line-requires
-    enum-known-outcome
-    write-refused-requires
-    same-length
-    returns
-    same-length-2
-    returns-2)
+    (λ c. search needs) (λ c. search needs) (λ c. search needs) (λ c κs. search needs) (λ c. search needs) (λ c κs. search needs)
+    (λ c. search needs) returns (λ c. search needs) returns-2)

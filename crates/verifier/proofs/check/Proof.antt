@@ -15,18 +15,6 @@ use borrow.Author.Needs.{needs}
 use Rattle.verifier.proofs.check.Statement.{statement}
 use Rattle.verifier.proofs.check.Tie as tie
 
-open-requires : tie.Need-open-requires
-open-requires c κs = search needs
-
-enum-known-opening : tie.Need-enum-known-opening
-enum-known-opening c = search needs
-
-enum-known-opening-2 : tie.Need-enum-known-opening-2
-enum-known-opening-2 c = search needs
-
-message-words-requires : tie.Need-message-words-requires
-message-words-requires c κs = search needs
-
 -- where the message words are counted
 abbrev Asked : Type 0
 Asked = tie.After-message-words
@@ -82,11 +70,4 @@ pub check-spec : {M : Type 1} → statement M
 check-spec =
     tie.close
     (tie.spec
-    open-requires
-    enum-known-opening
-    enum-known-opening-2
-    message-words-requires
-    returns
-    walk-requires
-    returns-2
-    returns-3)
+    (λ c κs. search needs) (λ c. search needs) (λ c. search needs) (λ c κs. search needs) returns walk-requires returns-2 returns-3)

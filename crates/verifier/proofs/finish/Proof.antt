@@ -6,9 +6,6 @@ use borrow.Author.Needs.{needs}
 use Rattle.verifier.proofs.finish.Statement.{statement}
 use Rattle.verifier.proofs.finish.Tie as tie
 
-input-agrees-requires : tie.Need-input-agrees-requires
-input-agrees-requires c κs = search needs
-
 returns : tie.Need-returns
 returns c = final-equal _ (sym (c .before .input-agrees .ensures (c .before .before .before .before .before .pre)) ∙ search needs)
 
@@ -16,4 +13,4 @@ returns-2 : tie.Need-returns-2
 returns-2 c = final-differs _ (sym (c .before .input-agrees .ensures (c .before .before .before .before .before .pre)) ∙ search needs)
 
 pub finish-spec : {M : Type 1} → statement M
-finish-spec = tie.close (tie.spec input-agrees-requires returns returns-2)
+finish-spec = tie.close (tie.spec (λ c κs. search needs) returns returns-2)

@@ -15,23 +15,8 @@ use Rattle.xdr.proofs.front_at.Tie as tie
 abbrev ahead : tie.After-word-at → List ℕ
 ahead read = drop (read .before .before .args .at) (read .before .before .args .bytes .now)
 
-word-at-requires : tie.Need-word-at-requires
-word-at-requires c κs = search needs
-
 returns : tie.Need-returns
 returns c = rw (whole-large (ahead (c .before)) (omega arith))
-
-sub-if2 : tie.Need-sub-if2
-sub-if2 c = search needs
-
-cast-if2 : tie.Need-cast-if2
-cast-if2 c = search needs
-
-mul-if2 : tie.Need-mul-if2
-mul-if2 c = search needs
-
-add-if2 : tie.Need-add-if2
-add-if2 c = search needs
 
 returns-2 : tie.Need-returns-2
 returns-2 c = rw (whole-short (ahead (c .before .before)) (simp length-drop (omega arith)))
@@ -43,4 +28,4 @@ returns-3 c =
 pub front-at-spec : {M : Type 1} → statement M
 front-at-spec =
     tie.close
-    (tie.spec word-at-requires returns sub-if2 cast-if2 mul-if2 add-if2 returns-2 returns-3)
+    (tie.spec (λ c κs. search needs) returns (λ c. search needs) (λ c. search needs) (λ c. search needs) (λ c. search needs) returns-2 returns-3)

@@ -36,15 +36,6 @@ module _ (told : tie.After-found) where
   counted-at : Counted (start told .args .number) (first + second + third + fourth) (start told .args .bytes .now)
   counted-at = counted (start told .args .number) first second third fourth (start told .args .bytes .now) counts-at
 
-scan-requires : tie.Need-scan-requires
-scan-requires c κs = search needs
-
-enum-known-found : tie.Need-enum-known-found
-enum-known-found c = search needs
-
-enum-told : tie.Need-enum-told
-enum-told c = search needs
-
 returns : tie.Need-returns
 returns c =
     let scanned = c .before .before in
@@ -54,27 +45,6 @@ returns c =
     let e = scanned .scan .ensures in
     let left = read-none n bytes (args .buffer .now) (refused-none _ (called n bytes) (ap answerOf (sym (c .enum-told .given .1)) ∙ e)) in
     (e ∙ left .0, left .1)
-
-cast-total : tie.Need-cast-total
-cast-total c = search needs
-
-cast-total-2 : tie.Need-cast-total-2
-cast-total-2 c = search needs
-
-add-total : tie.Need-add-total
-add-total c = search needs
-
-cast-total-3 : tie.Need-cast-total-3
-cast-total-3 c = search needs
-
-add-total-2 : tie.Need-add-total-2
-add-total-2 c = search needs
-
-cast-total-4 : tie.Need-cast-total-4
-cast-total-4 c = search needs
-
-add-total-3 : tie.Need-add-total-3
-add-total-3 c = search needs
 
 returns-2 : tie.Need-returns-2
 returns-2 c =
@@ -86,9 +56,6 @@ write-requires : tie.Need-write-requires
 write-requires c κs =
     let k = counted-at (c .before .before .before) in
     (k .found, omega (arith, ap (λ (f : Option (List (List ℕ))). length (wordsOf f)) (k .same)))
-
-same-length : tie.Need-same-length
-same-length c = search needs
 
 returns-3 : tie.Need-returns-3
 returns-3 c =
@@ -103,18 +70,5 @@ pub read-spec : {M : Type 1} → statement M
 read-spec =
     tie.close
     (tie.spec
-    scan-requires
-    enum-known-found
-    enum-told
-    returns
-    cast-total
-    cast-total-2
-    add-total
-    cast-total-3
-    add-total-2
-    cast-total-4
-    add-total-3
-    returns-2
-    write-requires
-    same-length
-    returns-3)
+    (λ c κs. search needs) (λ c. search needs) (λ c. search needs) returns (λ c. search needs) (λ c. search needs) (λ c. search needs)
+    (λ c. search needs) (λ c. search needs) (λ c. search needs) (λ c. search needs) returns-2 write-requires (λ c. search needs) returns-3)

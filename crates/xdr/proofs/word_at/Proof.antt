@@ -10,17 +10,8 @@ use Rattle.xdr.proofs.word_at.Tie as tie
 returns : tie.Need-returns
 returns c = sym (first-none (c .before .before .args .bytes .now) (c .before .before .args .at) (omega arith))
 
-sub-if2 : tie.Need-sub-if2
-sub-if2 c = search needs
-
 returns-2 : tie.Need-returns-2
 returns-2 c = sym (first-none (c .before .before .before .args .bytes .now) (c .before .before .before .args .at) (omega arith))
 
-word-within-requires : tie.Need-word-within-requires
-word-within-requires c κs = search needs
-
-returns-3 : tie.Need-returns-3
-returns-3 c = search needs
-
 pub word-at-spec : {M : Type 1} → statement M
-word-at-spec = tie.close (tie.spec returns sub-if2 returns-2 word-within-requires returns-3)
+word-at-spec = tie.close (tie.spec returns (λ c. search needs) returns-2 (λ c κs. search needs) (λ c. search needs))

@@ -10,11 +10,5 @@ use Rattle.field.proofs.Field.reduce.Tie as tie
 returns : tie.Need-returns
 returns c = sym (ap (λ (p : ℕ). c .before .args .word % p) (c .if1 .taken) ∙ mod-zero (c .before .args .word))
 
-rem-result : tie.Need-rem-result
-rem-result c = search needs
-
-returns-2 : tie.Need-returns-2
-returns-2 c = search needs
-
 pub reduce-spec : {M : Type 1} → statement M
-reduce-spec = tie.close (tie.spec returns rem-result returns-2)
+reduce-spec = tie.close (tie.spec returns (λ c. search needs) (λ c. search needs))

@@ -7,20 +7,8 @@ use Prim.Native.Nat.{_+_, _%_, _<_}
 use Rattle.field.proofs.Field.remainder.Statement.{statement}
 use Rattle.field.proofs.Field.remainder.Tie as tie
 
-cast-modulus : tie.Need-cast-modulus
-cast-modulus c = search needs
-
-add-modulus : tie.Need-add-modulus
-add-modulus c = search needs
-
-rem-result : tie.Need-rem-result
-rem-result c = search needs
-
 cast-result : tie.Need-cast-result
 cast-result c = let low : c .before .args .n % (c .before .args .self .largest + 1) < c .before .args .self .largest + 1 = mod-lt (c .before .args .n) (omega arith) in omega arith
 
-returns : tie.Need-returns
-returns c = search needs
-
 pub remainder-spec : {M : Type 1} → statement M
-remainder-spec = tie.close (tie.spec cast-modulus add-modulus rem-result cast-result returns)
+remainder-spec = tie.close (tie.spec (λ c. search needs) (λ c. search needs) (λ c. search needs) cast-result (λ c. search needs))

@@ -12,20 +12,11 @@ use Rattle.tally.proofs.Tally.plus.Tie as tie
 mul-product : tie.Need-mul-product
 mul-product c = product-fits (search needs) (search needs)
 
-with-room-requires : tie.Need-with-room-requires
-with-room-requires c κs = search needs
-
 add-t8 : tie.Need-add-t8
 add-t8 c =
     let args = c .before .args in
     let small = quotient-word (product-fits {a = args .a} {b = args .b} (search needs) (search needs) .fits) in
     search needs
-
-with-room-requires-2 : tie.Need-with-room-requires-2
-with-room-requires-2 c κs = search needs
-
-add-t11 : tie.Need-add-t11
-add-t11 c = search needs
 
 returns : tie.Need-returns
 unfolding tallied
@@ -35,4 +26,4 @@ returns c =
 
 pub plus-spec : {M : Type 1} → statement M
 plus-spec =
-    tie.close (tie.spec mul-product with-room-requires add-t8 with-room-requires-2 add-t11 returns)
+    tie.close (tie.spec mul-product (λ c κs. search needs) add-t8 (λ c κs. search needs) (λ c. search needs) returns)
