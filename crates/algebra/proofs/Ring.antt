@@ -95,7 +95,31 @@ module _ {C : Type 0} {N : Numbers C} (R : Ring N) where
   neg-add a b = sym (neg-unique (a ⊕ b) (neg N a ⊕ neg N b)
       (rw (add-assoc a b (neg N a ⊕ neg N b), add-left-comm b (neg N a) (neg N b), add-neg b, add-zero (neg N a)) (add-neg a)))
 
-pub ruleset ring = (sub-neg, zero-add, one-mul, add-left-comm, mul-left-comm, add-mul, neg-neg, neg-zero, mul-zero, zero-mul, mul-neg, neg-mul, neg-add, neg-add-cancel, add-neg-cancel, add-assoc, add-comm, add-zero, add-neg, mul-assoc, mul-comm, mul-one, mul-add)
+pub ruleset ring = (
+  sub-neg,
+  zero-add,
+  one-mul,
+  add-left-comm,
+  mul-left-comm,
+  add-mul,
+  neg-neg,
+  neg-zero,
+  mul-zero,
+  zero-mul,
+  mul-neg,
+  neg-mul,
+  neg-add,
+  neg-add-cancel,
+  add-neg-cancel,
+  add-assoc,
+  add-comm,
+  add-zero,
+  add-neg,
+  mul-assoc,
+  mul-comm,
+  mul-one,
+  mul-add,
+)
 
 module _ {C : Type 0} {N : Numbers C} (R : Ring N) where
   open Numbers N using (add as _⊕_, sub as _⊖_, mul as _⊗_, 𝟘, 𝟙)

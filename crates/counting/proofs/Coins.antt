@@ -11,7 +11,8 @@ use Rattle.lists.specs.Each.{All}
 use Rattle.lists.specs.Count.{sum, one-if, count, range}
 use Rattle.lists.proofs.Each.{all-weaken, all-map, all-flatMap}
 use Rattle.lists.proofs.Map.{map-map}
-use Rattle.lists.proofs.Count.{sum-nil, sum-cons, count-nil, count-cons, sum-same, sum-le, sum-scale, sum-const, sum-flatMap, count-sum, count-map, count-flatMap, count-same, count-le, count-or, count-none, count-every, count-below, length-range, all-range}
+use Rattle.lists.proofs.Count.{sum-nil, sum-cons, count-nil, count-cons, sum-same, sum-le, sum-scale, sum-const, sum-flatMap, count-sum}
+use Rattle.lists.proofs.Count.{count-map, count-flatMap, count-same, count-le, count-or, count-none, count-every, count-below, length-range, all-range}
 use Rattle.counting.specs.Coins.{CoinList, coinLists, passing, same}
 use Rattle.counting.specs.Theorems.{OnlyCoinLists, EachOnce, Total, SplitAtFirst, SplitAfter, Monotone, Union, EveryOne, Blocks}
 

@@ -5,7 +5,8 @@ use Prim.Native.Nat.{ℕ, _+_, _-_, _*_, _^_, _≤_, _<_, zero-le}
 use mathlib.Core.Path.{_≡_, refl, sym, ap, _∙_}
 use mathlib.Core.Bool.{Bool, true, false, not}
 use mathlib.Core.List.{List, [], _∷_, map}
-use native.Mathlib.Nat.{le-refl, le-trans, le-of-eq, add-zero, one-mul, zero-mul, pow-zero, pow-succ', mul-zero, mul-le-mul, mul-le-mul-left, mul-le-mul-right, mul-left-comm, sub-le, suc-sub-suc, sub-zero}
+use native.Mathlib.Nat.{le-refl, le-trans, le-of-eq, add-zero, one-mul, zero-mul, pow-zero, pow-succ'}
+use native.Mathlib.Nat.{mul-zero, mul-le-mul, mul-le-mul-left, mul-le-mul-right, mul-left-comm, sub-le, suc-sub-suc, sub-zero}
 use native.Mathlib.Omega.{arith}
 use lib.ListN.{length}
 use Rattle.lists.specs.Count.{sum, one-if, count, range}

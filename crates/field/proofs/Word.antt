@@ -2,7 +2,8 @@
 -- Assumes nothing.
 use mathlib.Core.Path.{_≡_, sym, ap, _∙_, subst}
 use Prim.Native.Nat.{ℕ, _+_, _-_, _*_, _/_, _%_, _^_, _<_, _≤_}
-use native.Mathlib.Nat.{mod-lt, mod-eq-of-lt, mod-eq-sub-mod, div-add-mod, add-mul-mod-self-left, add-mul-mod-self-right, sub-add-cancel, lt-of-le-of-lt, mul-le-mul-left, mul-lt-mul-of-pos-right, div-lt-iff-lt-mul, mul-comm}
+use native.Mathlib.Nat.{mod-lt, mod-eq-of-lt, mod-eq-sub-mod, div-add-mod, add-mul-mod-self-left, add-mul-mod-self-right}
+use native.Mathlib.Nat.{sub-add-cancel, lt-of-le-of-lt, mul-le-mul-left, mul-lt-mul-of-pos-right, div-lt-iff-lt-mul, mul-comm}
 use native.Mathlib.Omega.{arith}
 use lib.Pow.{pow-pos}
 use lib.Dec.{lit<}

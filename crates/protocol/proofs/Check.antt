@@ -7,6 +7,7 @@ use mathlib.Core.List.{List}
 use lib.Dec.{eqb, ltb}
 use lib.ListN.{length}
 use borrow.Author.Tests.{eq-eqb, eqb-true, lt-ltb, ltb-true}
+use Rattle.lists.specs.Each.{All}
 use Rattle.counting.specs.Coins.{CoinList}
 use Rattle.refusal.specs.Order.{need, first}
 use Rattle.refusal.proofs.Order.{first-none, need-none, first-more, need-more}
@@ -19,7 +20,7 @@ use Rattle.walk.proofs.Session.{said-sized, sized-words}
 use Rattle.protocol.specs.Start.{firstPoint, laterCoins, firstClaim}
 use Rattle.protocol.specs.Rounds.{Place, rounds}
 use Rattle.protocol.specs.Judge.{descent, inputAgrees}
-use Rattle.protocol.specs.Check.{needCoins, walkFrom, checkAnswer}
+use Rattle.protocol.specs.Check.{needCoins, Counted, walkFrom, checkAnswer}
 use Rattle.protocol.specs.Session.{openCause}
 use Rattle.protocol.specs.Prove.{messagesOn, transcript}
 use Rattle.protocol.specs.Accept.{FitsCircuit}
@@ -28,9 +29,9 @@ use Rattle.protocol.proofs.Sums.{message-words}
 
 -- OPENING: what no refusal says
 pub record Opened (c input : List ℕ) (y : ℕ) (cs : List ℕ) : Type 0 where
-  pub lists : listsCause c input ≡ 0
+  pub given : Counted c input cs
   pub output : y < primeOf c
-  pub coins : CoinList (primeOf c) (coinCount c) cs
+  pub below : All (λ r. r < primeOf c) cs
 
 pub opened : (c input : List ℕ) (y : ℕ) (cs : List ℕ) → openCause c input y cs ≡ 0 → Opened c input y cs
 unfolding openCause
@@ -40,10 +41,17 @@ opened c input y cs e =
     let number = need-none (eqb (length cs) (coinCount c)) 10 _ (output .1) in
     let small = need-none (allBelow (primeOf c) cs) 11 _ (number .1) in
     record {
-      lists = lists .0;
+      given = record { lists = lists .0; coins = eqb-true (length cs) (coinCount c) (number .0) };
       output = ltb-true y (primeOf c) (output .0);
-      coins = (eqb-true (length cs) (coinCount c) (number .0), all-below (primeOf c) cs (small .0));
+      below = all-below (primeOf c) cs (small .0);
     }
+
+pub opens-on : (c input : List ℕ) (y : ℕ) (cs : List ℕ) → listsCause c input ≡ 0 → y < primeOf c → CoinList (primeOf c) (coinCount c) cs
+    → Opened c input y cs
+opens-on c input y cs legal small v = record { given = record { lists = legal; coins = v .0 }; output = small; below = v .1 }
+
+pub its-coins : {c input : List ℕ} {y : ℕ} {cs : List ℕ} → Opened c input y cs → CoinList (primeOf c) (coinCount c) cs
+its-coins o = (o .given .coins, o .below)
 
 -- the coins of a coin list are not refused
 pub coins-taken : (c cs : List ℕ) (rest : ℕ) → CoinList (primeOf c) (coinCount c) cs → needCoins c cs rest ≡ rest
@@ -51,7 +59,7 @@ coins-taken c cs rest v = rw (eq-eqb (length cs) (coinCount c) (v .0), below-all
 
 pub open-legal : (c input : List ℕ) (y : ℕ) (cs : List ℕ) → Opened c input y cs → openCause c input y cs ≡ 0
 unfolding openCause
-open-legal c input y cs o = rw (o .lists, lt-ltb y (primeOf c) (o .output)) (coins-taken c cs 0 (o .coins))
+open-legal c input y cs o = rw (o .given .lists, lt-ltb y (primeOf c) (o .output)) (coins-taken c cs 0 (its-coins o))
 
 -- an output that is no residue is refused by both
 pub open-large : (c input : List ℕ) (y : ℕ) (cs : List ℕ) → listsCause c input ≡ 0 → ltb y (primeOf c) ≡ false → openCause c input y cs ≡ 13
@@ -80,7 +88,7 @@ pub check-walk : (c input : List ℕ) (y : ℕ) (cs ms : List ℕ) → Opened c 
     → checkAnswer c input y cs ms ≡ walkFrom c input (firstClaim c y cs) cs ms
 unfolding checkAnswer
 check-walk c input y cs ms o n =
-    rw (o .lists, lt-ltb y (primeOf c) (o .output)) (coins-taken c cs _ (o .coins))
+    rw (o .given .lists, lt-ltb y (primeOf c) (o .output)) (coins-taken c cs _ (its-coins o))
     ∙ ap (λ (b : Bool). need b 14 (walkFrom c input (firstClaim c y cs) cs ms)) (eq-eqb (length ms) (messageWords c) n)
 
 -- a rule's transcript has the exact length
@@ -96,6 +104,6 @@ pub whole-play : (c input : List ℕ) (y : ℕ) (cs : List ℕ) → Opened c inp
     → checkAnswer c input y cs (transcript c rule cs) ≡ play (descent c) (inputAgrees c input) (byRule rule) (rounds c) (firstPoint c cs) (firstClaim c y cs) (laterCoins c cs)
 unfolding transcript
 whole-play c input y cs o rule fits =
-    check-walk c input y cs (transcript c rule cs) o (length-transcript c rule fits cs (o .coins))
+    check-walk c input y cs (transcript c rule cs) o (length-transcript c rule fits cs (its-coins o))
     ∙ walk-said (descent c) (inputAgrees c input) rule (rounds c) (firstPoint c cs) (firstClaim c y cs) (laterCoins c cs)
-    (fits cs (o .coins))
+    (fits cs (its-coins o))

@@ -21,7 +21,8 @@ use Rattle.walk.specs.Game.{passes}
 use Rattle.protocol.specs.Start.{coinsTo}
 use Rattle.protocol.specs.Judge.{messageLength}
 use Rattle.protocol.specs.Check.{checkAnswer}
-use Rattle.protocol.specs.Prove.{Proof, proved, refused, OneMessage, wrote, proofOf, oneOf, honest, transcript, placeOf, proveCause, proveAnswer, proveBuffer, proveOneCause, proveOneAnswer, proveOneBuffer}
+use Rattle.protocol.specs.Prove.{Proof, proved, refused, OneMessage, wrote, proofOf, oneOf, honest}
+use Rattle.protocol.specs.Prove.{transcript, placeOf, proveCause, proveAnswer, proveBuffer, proveOneCause, proveOneAnswer, proveOneBuffer}
 use Rattle.protocol.specs.Theorems.{Demand3, ProvedAccepted, ProvedInTurn}
 use Rattle.protocol.proofs.Check.{length-transcript}
 use Rattle.protocol.proofs.Theorems.{honest-fits, whole-sound, whole-complete, session-sound, session-complete, honest-by-prefix}

@@ -68,7 +68,8 @@ module _ (c : List ℕ) where
       let i : ℕ = suc (length front) in
       let ek : exponentAt c i ≡ k = subst (λ (l : List ℕ). getD l (length front) 0 ≡ k) e (getD-append-seam front k back 0) in
       let k₀ : ℕ = outputExponent c in
-      let es : coinsOf (take (length front) (exponents c)) ≡ coinsOf front = subst (λ (l : List ℕ). coinsOf (take (length front) l) ≡ coinsOf front) e (ap coinsOf (take-append-seam front (k ∷ back))) in
+      let seam = ap coinsOf (take-append-seam front (k ∷ back)) in
+      let es : coinsOf (take (length front) (exponents c)) ≡ coinsOf front = subst (λ (l : List ℕ). coinsOf (take (length front) l) ≡ coinsOf front) e seam in
       let front′ : List ℕ = front ++ (k ∷ []) in
       let en : length front′ ≡ suc (length front) = length-append front (k ∷ []) ∙ add-one (length front) in
       let ec : k₀ + coinsOf front′ ≡ k₀ + coinsOf front + 2 * k + 1 = omega (arith, coins-append front (k ∷ []), coins-one k) in

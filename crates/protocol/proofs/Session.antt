@@ -40,7 +40,9 @@ module _ (c input : List ℕ) (legal : listsCause c input ≡ 0) (cs : List ℕ)
   fits-here : (r : Place) (claim : ℕ) (past : List ℕ) → AtRound c r (length past) → claim < primeOf c → recordFits c (at r claim) ≡ true
   unfolding recordFits
   fits-here r claim past h l =
-      rw (le-leb 1 (r .layer) (h .first), le-leb (r .layer) (length (exponents c)) (within c r (length past) h), le-leb (r .round) (2 * exponentAt c (r .layer)) (h .reached), lt-ltb claim (primeOf c) l) refl
+      let inside = le-leb (r .layer) (length (exponents c)) (within c r (length past) h) in
+      let reached = le-leb (r .round) (2 * exponentAt c (r .layer)) (h .reached) in
+      rw (le-leb 1 (r .layer) (h .first), inside, reached, lt-ltb claim (primeOf c) l) refl
 
   step-here : (r : Place) (claim : ℕ) (past : List ℕ) (m : List ℕ) → AtRound c r (length past) → claim < primeOf c
       → stepAnswer c input cs (at r claim) m ≡ step (descent c) (inputAgrees c input) cs (at r claim) m

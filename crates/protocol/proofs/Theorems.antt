@@ -34,7 +34,7 @@ use Rattle.protocol.proofs.Sums.{message-words}
 use Rattle.protocol.proofs.Truth.{claim-before, claim-below}
 use Rattle.protocol.proofs.Descent.{Stands, rounds-head, stands-first, accepts, false-output, bound-of, sharp-of, true-output}
 use Rattle.protocol.proofs.Descent.{honest-fits as honest-fits-walk}
-use Rattle.protocol.proofs.Check.{Opened, opened, open-legal, open-large, check-large, check-walk, whole-play}
+use Rattle.protocol.proofs.Check.{Opened, opened, opens-on, its-coins, open-legal, open-large, check-large, check-walk, whole-play}
 use Rattle.protocol.proofs.Session.{steps-calls}
 
 pub honest-fits : HonestFits
@@ -52,8 +52,8 @@ module _ (c input : List ℕ) (legal : listsCause c input ≡ 0) where
   steps-from-opening y cs o ms =
       let w = rounds-head c input legal in
       let us : List ℕ = firstPoint c cs in
-      steps-calls c input legal cs (o .coins) ms (place 1 0) (w .0) us (firstClaim c y cs)
-      (subst (λ (l : List Place). Stands c l us) (w .1) (stands-first c input legal us (coins-split c cs (o .coins) .before .0)))
+      steps-calls c input legal cs (its-coins o) ms (place 1 0) (w .0) us (firstClaim c y cs)
+      (subst (λ (l : List Place). Stands c l us) (w .1) (stands-first c input legal us (coins-split c cs (its-coins o) .before .0)))
       (claim-below c y cs (o .output))
 
   -- WHERE NOTHING IS REFUSED BEFORE, whole check and session accept as the walk on the rule's messages does
@@ -72,12 +72,12 @@ module _ (c input : List ℕ) (legal : listsCause c input ≡ 0) where
         let us : List ℕ = firstPoint c cs in
         let vs : List ℕ = laterCoins c cs in
         let claim : ℕ = firstClaim c y cs in
-        let parts = coins-split c cs (o .coins) in
+        let parts = coins-split c cs (its-coins o) in
         let n : length vs ≡ length (place 1 0 ∷ w .0) = parts .later .0 ∙ ap length (w .1) in
         ap₂ (λ (a b : Bool). a && b) (ap passes (open-legal c input y cs o)) (ap anyAccepted (steps-from-opening y cs o (messagesOn c rule cs)))
         ∙ ap₂ (λ (l : List Place) (all : List ℕ). anyAccepted (calls g final all (at (place 1 0) claim) (said rule l us vs))) (w .1) (sym (parts .whole))
         ∙ session-play g final rule (place 1 0) (w .0) us claim vs (chain-first us (parts .before .0))
-        (subst (λ (l : List Place). Fits g rule l us vs) (w .1) (fits cs (o .coins))) n
+        (subst (λ (l : List Place). Fits g rule l us vs) (w .1) (fits cs (its-coins o))) n
         ∙ ap (λ (l : List Place). passes (play g final (byRule rule) l us claim vs)) (sym (w .1))
 
     same-at : CoinList (primeOf c) (coinCount c) cs → sessionAccepts c input y rule cs ≡ wholeAccepts c input y rule cs
@@ -85,7 +85,7 @@ module _ (c input : List ℕ) (legal : listsCause c input ≡ 0) where
       where
         go : (b : Bool) → ltb y (primeOf c) ≡ b → sessionAccepts c input y rule cs ≡ wholeAccepts c input y rule cs
         go true e =
-            let o : Opened c input y cs = record { lists = legal; output = ltb-true y (primeOf c) e; coins = v } in
+            let o = opens-on c input y cs legal (ltb-true y (primeOf c) e) v in
             session-accepts o ∙ sym (whole-accepts o)
         go false e =
             ap (λ (n : ℕ). passes n && anyAccepted (sessionOn c input y cs (messagesOn c rule cs))) (open-large c input y cs legal e)
@@ -96,7 +96,7 @@ module _ (c input : List ℕ) (legal : listsCause c input ≡ 0) where
     whole-walk v a = go (ltb y (primeOf c)) refl
       where
         go : (b : Bool) → ltb y (primeOf c) ≡ b → plays ≡ true
-        go true e = sym (whole-accepts (record { lists = legal; output = ltb-true y (primeOf c) e; coins = v })) ∙ a
+        go true e = sym (whole-accepts (opens-on c input y cs legal (ltb-true y (primeOf c) e) v)) ∙ a
         go false e = absurd (false≢true (sym (ap passes (check-large c input y cs (transcript c rule cs) legal e)) ∙ a))
 
 pub same-acceptance : SameAcceptance
@@ -119,7 +119,7 @@ whole-sharp c input legal y ne rule fits =
 pub whole-complete : Complete wholeAccepts
 whole-complete c input legal cs v =
     whole-accepts c input legal (value c input) (honest c input) (honest-fits c input legal) cs
-    (record { lists = legal; output = value-below c input legal; coins = v })
+    (opens-on c input (value c input) cs legal (value-below c input legal) v)
     ∙ true-output c input legal cs v
 
 -- THE SESSION, which accepts when the check does
@@ -143,12 +143,12 @@ same-end c input y cs ms e n =
     let g = descent c in
     let final = inputAgrees c input in
     let o : Opened c input y cs = opened c input y cs e in
-    let legal = o .lists in
+    let legal = o .given .lists in
     let w = rounds-head c input legal in
     let us : List ℕ = firstPoint c cs in
     let vs : List ℕ = laterCoins c cs in
     let claim : ℕ = firstClaim c y cs in
-    let parts = coins-split c cs (o .coins) in
+    let parts = coins-split c cs (its-coins o) in
     let nc : length vs ≡ length (place 1 0 ∷ w .0) = parts .later .0 ∙ ap length (w .1) in
     let nm : length ms ≡ wordsOf g (place 1 0 ∷ w .0) = n ∙ sym (message-words c) ∙ ap (wordsOf g) (w .1) in
     ap endOf (steps-from-opening c input legal y cs o (cut g (rounds c) ms))
@@ -163,7 +163,7 @@ no-early-coin c input y ms us common rest rest′ n e e′ =
     let final = inputAgrees c input in
     let o = opened c input y (us ++ (common ++ rest)) e in
     let o′ = opened c input y (us ++ (common ++ rest′)) e′ in
-    let legal = o .lists in
+    let legal = o .given .lists in
     let first : (more : List ℕ) → firstClaim c y (us ++ more) ≡ firstClaim c y us = λ more. claim-before c y (us ++ more) ∙ ap (firstClaim c y) (take-at us more (outputExponent c) n) in
     ap (take (length common)) (steps-from-opening c input legal y (us ++ (common ++ rest)) o ms
     ∙ ap (λ (claim : ℕ). calls g final (us ++ (common ++ rest)) (at (place 1 0) claim) ms) (first (common ++ rest)))

@@ -1,7 +1,7 @@
 -- One step: the coins before its round, the judgement and what follows it, the refusals before it.
 -- Assumes nothing.
 use Prim.Native.Nat.{ℕ, zero, suc, _+_, _*_, _≤_, _<_}
-use mathlib.Core.Path.{_≡_, refl, sym, ap, _∙_}
+use mathlib.Core.Path.{_≡_, refl, sym, subst, ap, _∙_}
 use mathlib.Core.Bool.{Bool, true, false}
 use mathlib.Core.List.{List, [], _∷_, _++_}
 use native.Mathlib.Nat.{suc-ne-zero}
@@ -52,8 +52,8 @@ module _ (c input cs : List ℕ) (s : Session) (h : Fitting c input cs s) (n : �
   coin-in : n < coinCount c
   coin-in =
       let o = own c input cs s h in
-      let reached = o .reached in
-      omega (arith, en, own-end (s .layer) (o .low) (o .inside), some-coins c (s .layer))
+      let reached = o .there .reached in
+      omega (arith, en, own-end (s .layer) (o .there .first) (o .there .last), some-coins c (s .layer))
 
   pub coin-inside : n < length cs
   coin-inside = let inside = coin-in in omega (arith, h .given .coins)
@@ -63,14 +63,8 @@ module _ (c input cs : List ℕ) (s : Session) (h : Fitting c input cs s) (n : �
 
   pub at-round : AtRound c (place (s .layer) (s .round)) (length (take n cs))
   at-round =
-      let o = own c input cs s h in
-      record {
-        legal = legal c input cs s h;
-        first = o .low;
-        last = o .inside;
-        reached = o .reached;
-        counted = length-take-le n cs (let inside = coin-inside in omega arith) ∙ en;
-      }
+      let counted : length (take n cs) ≡ coinsBefore c here = length-take-le n cs (let inside = coin-inside in omega arith) ∙ en in
+      subst (AtRound c here) (sym counted) (own c input cs s h .there)
 
   -- at the last round it is the last coin
   last-coin : isLast c here ≡ true → n + 1 ≡ coinCount c
@@ -83,7 +77,7 @@ module _ (c input cs : List ℕ) (s : Session) (h : Fitting c input cs s) (n : �
       let all : layerStart c (suc (length (exponents c))) ≡ outputExponent c + coinsOf (exponents c) =
       ap (λ (ks : List ℕ). outputExponent c + coinsOf ks) (take-all (length (exponents c)) (exponents c) (omega arith)) in
       let end : layerStart c (suc (s .layer)) ≡ outputExponent c + coinsOf (exponents c) = ap (λ (i : ℕ). layerStart c (suc i)) last ∙ all in
-      omega (arith, en, line, end, own-end (s .layer) (o .low) (o .inside))
+      omega (arith, en, line, end, own-end (s .layer) (o .there .first) (o .there .last))
 
   all-coins : isLast c here ≡ true → take n cs ++ (getD cs n 0 ∷ []) ≡ cs
   all-coins e =

@@ -15,7 +15,7 @@ use Rattle.circuit.specs.Sized.{LayerOf, LegalCircuit}
 use Rattle.circuit.proofs.Loading.{split-true, legal-lists}
 use Rattle.circuit.proofs.Sized.{deep, exponent-small, layer-of}
 use Rattle.walk.specs.Session.{accepted, goOn, refused, Record, at, ended, stepFinal}
-use Rattle.protocol.specs.Rounds.{Place, place, isLine, isLast}
+use Rattle.protocol.specs.Rounds.{Place, place, coinsBefore, isLine, isLast, AtRound}
 use Rattle.protocol.specs.Judge.{inputAgrees}
 use Rattle.protocol.specs.Session.{recordFits}
 use Rattle.session.specs.Answers.{recordOf, verdictOf, Fitting, goesOn, GoesOn}
@@ -65,9 +65,7 @@ module _ (c : List ℕ) (h : LegalCircuit c) (s : Record Place) where
   -- what a fitting record says
   pub record Fit : Type 0 where
     pub opened : s .opened ≡ true
-    pub low : 1 ≤ s .round .layer
-    pub inside : s .round .layer ≤ depth c
-    pub reached : s .round .round ≤ 2 * exponentAt c (s .round .layer)
+    pub there : AtRound c (s .round) (coinsBefore c (s .round))
     pub claim : s .claim < primeOf c
 
   pub fit : recordFits c s ≡ true → Fit
@@ -80,9 +78,13 @@ module _ (c : List ℕ) (h : LegalCircuit c) (s : Record Place) where
       let deeper = leb-true (s .round .layer) (length (exponents c)) (d .0) in
       record {
         opened = a .0;
-        low = leb-true 1 (s .round .layer) (b .0);
-        inside = omega (arith, deep c h, deeper);
-        reached = leb-true (s .round .round) (2 * exponentAt c (s .round .layer)) (f .0);
+        there = record {
+          legal = h;
+          first = leb-true 1 (s .round .layer) (b .0);
+          last = omega (arith, deep c h, deeper);
+          reached = leb-true (s .round .round) (2 * exponentAt c (s .round .layer)) (f .0);
+          counted = refl;
+        };
         claim = ltb-true (s .claim) (primeOf c) (f .1);
       }
 
@@ -95,19 +97,19 @@ module _ (c input cs : List ℕ) (s : Session) (h : Fitting c input cs s) where
   own = fit c legal (recordOf s) (h .fits)
 
   pub own-layer : LayerOf c (s .layer)
-  own-layer = layer-of c legal (s .layer) (own .inside)
+  own-layer = layer-of c legal (s .layer) (own .there .last)
 
   pub own-start : LayerSoFar c (s .layer)
-  own-start = let inside = own .inside in record { legal = legal; first = own .low; last = omega arith }
+  own-start = let inside = own .there .last in record { legal = legal; first = own .there .first; last = omega arith }
 
   pub small-round : s .round ≤ 2 * maxExponent
-  small-round = let low = exponent-small c (s .layer) own-layer in let reached = own .reached in omega arith
+  small-round = let low = exponent-small c (s .layer) own-layer in let reached = own .there .reached in omega arith
 
   pub small-layer : s .layer ≤ maxDepth
-  small-layer = let low = legal .sized .headed .shallow in let inside = own .inside in omega arith
+  small-layer = let low = legal .sized .headed .shallow in let inside = own .there .last in omega arith
 
   at-end : ¬ (s .layer < depth c) → s .layer ≡ length (exponents c)
-  at-end ne = let inside = own .inside in omega (arith, ne, deep c legal)
+  at-end ne = let inside = own .there .last in omega (arith, ne, deep c legal)
 
   module _ (coin y : ℕ) where
     goes : (b : Bool) → isLast c (place (s .layer) (s .round)) ≡ b → (r : Stepped) → verdictOf (r .verdict) ≡ goesOn c input cs s coin y b .0

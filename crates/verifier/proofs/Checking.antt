@@ -28,7 +28,7 @@ module _ (c input : List ℕ) (y : ℕ) (cs ms : List ℕ) where
     none = opened-free c input y cs s e
 
     pub opened-given : Counted c input cs
-    opened-given = let o = opened c input y cs none in record { lists = o .lists; coins = o .coins .0 }
+    opened-given = opened c input y cs none .given
 
     pub check-length : ¬ (length ms ≡ messageWords c) → 14 ≡ checkAnswer c input y cs ms
     check-length ne = sym (check-opening c input y cs ms ∙ rw (none, ne-eqb (length ms) (messageWords c) ne) refl)

@@ -123,7 +123,9 @@ module _ {R : Type 0} (g : Game R) (final : Comparison) where
   step-ends true past c s m all ms o ih = go-judge (g .judge (s .round) past (s .claim) m) ih
     where
       Good : Answer × Record R → Type 0
-      Good a = anyAccepted (calls g final all (a .1) ms) ≡ passes (endOf (calls g final all (a .1) ms)) → anyAccepted (a .0 ∷ calls g final all (a .1) ms) ≡ passes (endOf (a .0 ∷ calls g final all (a .1) ms))
+      Good a =
+          anyAccepted (calls g final all (a .1) ms) ≡ passes (endOf (calls g final all (a .1) ms))
+          → anyAccepted (a .0 ∷ calls g final all (a .1) ms) ≡ passes (endOf (a .0 ∷ calls g final all (a .1) ms))
 
       shut : anyAccepted (calls g final all (ended s) ms) ≡ false
       shut = closed-calls all (ended s) ms refl

@@ -78,7 +78,9 @@ returns-3 c =
     let v = c .before .before .before .before .before in
     let g = counted v in
     let done = left-values _ _ (start g .args .buffer .now) (total g) (v .all-values .result) (legal g) (total-is g) (v .before .if1 .left) (v .all-values .ensures) in
-    record { answer = done .answer; buffer = over-whole (take (total g) (v .all-values .result)) (start g .args .buffer .now) _ (omega (arith, front v, v .before .if1 .left)) (c .before .before .put .ensures) ∙ done .buffer }
+    let all = take (total g) (v .all-values .result) in
+    let put = over-whole all (start g .args .buffer .now) _ (omega (arith, front v, v .before .if1 .left)) (c .before .before .put .ensures) in
+    record { answer = done .answer; buffer = put ∙ done .buffer }
 
 pub evaluate-spec : {M : Type 1} → statement M
 evaluate-spec =

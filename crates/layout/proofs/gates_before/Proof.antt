@@ -1,12 +1,12 @@
 -- `gates_before` meets its contract: before turn i the count is of the gates of the layers before i, and layer i is `own` wide.
 -- Assumes nothing.
 use borrow.Author.Needs.{needs}
-use Prim.Native.Nat.{_≤_, _-_, _*_}
+use Prim.Native.Nat.{_≤_, _<_, _-_, _*_}
 use mathlib.Core.Path.{_≡_, refl, ap, _∙_}
 use native.Mathlib.Omega.{arith}
 use lib.ListN.{length}
 use Rattle.circuit.specs.Limits.{maxDepth, maxWidth}
-use Rattle.circuit.specs.Circuit.{exponentAt, widthOf, gatesBefore}
+use Rattle.circuit.specs.Circuit.{depth, exponentAt, widthOf, gatesBefore}
 use Rattle.circuit.specs.Sized.{LayerOf}
 use Rattle.circuit.proofs.Sized.{width-small, exponent-next}
 use Rattle.circuit.proofs.Gates.{count-none, count-turn}
@@ -86,7 +86,9 @@ loop-again c =
       search needs,
       omega arith,
       c .width2 .ensures ∙ ap widthOf (exponent-next l _ (at .loop .i) (at .before .before .before .before .exponents .ensures)),
-      λ h. count-turn l (h .headed) (at .loop .i) (at .loop .count) (exponentAt l (at .loop .i)) (at .loop .own) (omega (arith, h .inside, at .before .least .ensures)) (at .loop .inv .3 h) refl (at .loop .inv .2),
+      λ h.
+          let inside : at .loop .i < depth l = omega (arith, h .inside, at .before .least .ensures) in
+          count-turn l (h .headed) (at .loop .i) (at .loop .count) (exponentAt l (at .loop .i)) (at .loop .own) inside (at .loop .inv .3 h) refl (at .loop .inv .2),
     )
 
 returns-2 : tie.Need-returns-2 Inv-loop μ-loop

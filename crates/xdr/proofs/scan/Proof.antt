@@ -11,7 +11,8 @@ use native.Mathlib.Omega.{arith}
 use lib.ListN.{length, drop, length-append, length-drop}
 use Rattle.lists.specs.Buffer.{over}
 use Rattle.xdr.specs.Read.{arrays, called, countsOf, firstWord, whole, size}
-use Rattle.xdr.proofs.Found.{refused-found, zeros, front, whole-fits, length-front, arrays-none, arrays-end, arrays-left-over, after-nil, after-front, counts-more, called-none, called-some, after, counts-found, front-some, front-none}
+use Rattle.xdr.proofs.Found.{refused-found, zeros, front, whole-fits, length-front, arrays-none, arrays-end, arrays-left-over}
+use Rattle.xdr.proofs.Found.{after-nil, after-front, counts-more, called-none, called-some, after, counts-found, front-some, front-none}
 use borrow.Author.Needs.{needs}
 use Rattle.xdr.proofs.scan.Statement.{statement}
 use Rattle.xdr.proofs.scan.Tie as tie
