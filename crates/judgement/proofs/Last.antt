@@ -30,9 +30,7 @@ module _ (c input cs : List ℕ) (h : Counted c input cs) where
 
   pub behind-last : AtLayer c (depth c + 1) (length cs)
   behind-last = record {
-    legal = legal;
-    first = omega arith;
-    last = omega arith;
+    there = so-far c legal;
     counted = h .coins ∙ sym (sum-coins c) ∙ sym (sum-all c (outputExponent c) 2 legal) ∙ sum-start c (depth c + 1) (so-far c legal);
   }
 

@@ -34,6 +34,7 @@ fn check_gate(kind: u32, left: u32, right: u32, next: usize) -> Checked
     if next <= right as usize {
         return Checked::Refused(Cause::GateWires);
     }
+    // a left wire that is not above the right one is inside the next layer too
     if right < left {
         return Checked::Refused(Cause::GateWires);
     }

@@ -45,7 +45,7 @@ pub record LineRows (p : ℕ) (past : List ℕ) (k : ℕ) (u v r : List ℕ) : T
 
 module _ (c : List ℕ) (l : ℕ) (past : List ℕ) (h : AtLayer c (suc (suc l)) (length past)) where
   inside : suc l ≤ depth c
-  inside = let low : suc (suc l) ≤ 1 + depth c = h .last in omega arith
+  inside = let low : suc (suc l) ≤ 1 + depth c = h .there .last in omega arith
 
   -- the layer above: its exponent, where its coins start, and those that are left from there on
   abbrev K : ℕ
@@ -58,11 +58,11 @@ module _ (c : List ℕ) (l : ℕ) (past : List ℕ) (h : AtLayer c (suc (suc l))
   cs = drop s past
 
   fits : K ≤ rowLength
-  fits = let low = exponent-small c (suc l) (record { headed = h .legal .sized .headed; inside = inside }) in omega arith
+  fits = let low = exponent-small c (suc l) (record { headed = h .there .legal .sized .headed; inside = inside }) in omega arith
 
   -- they are its 2k + 1 coins
   above-coins : length past ≡ s + 2 * K + 1
-  above-coins = let low = inside in h .counted ∙ start-next c l (omega (arith, deep c (h .legal)))
+  above-coins = let low = inside in h .counted ∙ start-next c l (omega (arith, deep c (h .there .legal)))
 
   own-coins : length cs ≡ 2 * K + 1
   own-coins = let size = above-coins in rw length-drop (omega arith)
@@ -118,7 +118,7 @@ module _ (c : List ℕ) (l : ℕ) (past : List ℕ) (h : AtLayer c (suc (suc l))
 -- the same, of a layer that is not the first
 module _ (c : List ℕ) (past : List ℕ) where
   standing-coins : (layer : ℕ) → AtLayer c layer (length past) → 2 ≤ layer → length past ≡ layerStart c (layer - 1) + 2 * exponentAt c (layer - 1) + 1
-  standing-coins zero h ne = absurd (let low : 1 ≤ 0 = h .first in omega arith)
+  standing-coins zero h ne = absurd (let low : 1 ≤ 0 = h .there .first in omega arith)
   standing-coins (suc zero) h ne = absurd (omega arith)
   standing-coins (suc (suc l)) h ne =
       let e : suc (suc l) - 1 ≡ suc l = omega arith in
@@ -129,7 +129,7 @@ module _ (c : List ℕ) (past : List ℕ) where
 
   pub standing-row : (layer k : ℕ) (u v r : List ℕ) → AtLayer c layer (length past) → 2 ≤ layer → k ≡ exponentAt c (layer - 1)
       → LineRows (primeOf c) past k u v r → Row (pointAt c layer past) r
-  standing-row zero k u v r h ne ek rows = absurd (let low : 1 ≤ 0 = h .first in omega arith)
+  standing-row zero k u v r h ne ek rows = absurd (let low : 1 ≤ 0 = h .there .first in omega arith)
   standing-row (suc zero) k u v r h ne ek rows = absurd (omega arith)
   standing-row (suc (suc l)) k u v r h ne ek rows =
       let e : suc (suc l) - 1 ≡ suc l = omega arith in
@@ -139,14 +139,14 @@ module _ (c : List ℕ) (past : List ℕ) where
   first-length h = length-take-le (outputExponent c) past (omega (arith, h .counted, sum-nil))
 
   pub point-length : (layer : ℕ) → AtLayer c layer (length past) → length (pointAt c layer past) ≡ exponentAt c (layer - 1)
-  point-length zero h = absurd (let low : 1 ≤ 0 = h .first in omega arith)
+  point-length zero h = absurd (let low : 1 ≤ 0 = h .there .first in omega arith)
   point-length (suc zero) h = let e : suc zero - 1 ≡ 0 = omega arith in first-length h ∙ ap (exponentAt c) (sym e)
   point-length (suc (suc l)) h = let e : suc (suc l) - 1 ≡ suc l = omega arith in above-length c l past h ∙ ap (exponentAt c) (sym e)
 
   -- at layer 1 the coins so far are the first point
   pub first-row : (layer : ℕ) (r : List ℕ) → AtLayer c layer (length past) → layer < 2 → Row (take rowLength past) r → Row (pointAt c layer past) r
   first-row layer r h low row =
-      let some : 1 ≤ layer = h .first in
+      let some : 1 ≤ layer = h .there .first in
       let e : 1 ≡ layer = omega arith in
       let counted : length past ≡ layerStart c layer = h .counted in
       let few : length past ≡ outputExponent c = counted ∙ ap (layerStart c) (sym e) ∙ omega (arith, sum-nil) in

@@ -64,9 +64,7 @@ module _ (c : List ℕ) (layer round : ℕ) (past : List ℕ) (h : AtRound c (pl
   at-layer start e =
       let low : layer ≤ depth c = h .last in
       record {
-        legal = h .legal;
-        first = h .first;
-        last = omega arith;
+        there = record { legal = h .legal; first = h .first; last = omega arith };
         counted = length-take-le start past (omega (arith, e, h .counted)) ∙ e;
       }
 

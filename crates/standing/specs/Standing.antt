@@ -16,11 +16,15 @@ use Rattle.protocol.specs.Judge.{fixed, pointAt}
 use Rattle.protocol.specs.Check.{needCoins}
 use Rattle.standing.specs.declared.Stand.{Stand}
 
--- a layer that a claim can stand at, after n coins, those before it; D + 1 is behind the last
-pub record AtLayer (c : List ℕ) (layer n : ℕ) : Type 0 where
+-- a layer that a claim can stand at; D + 1 is behind the last
+pub record LayerSoFar (c : List ℕ) (layer : ℕ) : Type 0 where
   pub legal : LegalCircuit c
   pub first : 1 ≤ layer
   pub last : layer ≤ 1 + depth c
+
+-- such a layer after n coins, those before it
+pub record AtLayer (c : List ℕ) (layer n : ℕ) : Type 0 where
+  pub there : LayerSoFar c layer
   pub counted : n ≡ layerStart c layer
 
 -- a row with a point's coordinates in front
@@ -30,12 +34,6 @@ Row point row = Front rowLength point row
 -- a row holds the point that stands at a layer, after the coins before it
 abbrev pub PointStands : List ℕ → ℕ → List ℕ → List ℕ → Type 0
 PointStands c layer past row = AtLayer c layer (length past) → Row (pointAt c layer past) row
-
--- a layer that the circuit has, or the place behind its last
-pub record LayerSoFar (c : List ℕ) (layer : ℕ) : Type 0 where
-  pub legal : LegalCircuit c
-  pub first : 1 ≤ layer
-  pub last : layer ≤ 1 + depth c
 
 -- the sum of a × k + 1 over exponents: of coins with 2 for a, of message words with 7
 abbrev pub layerSum : ℕ → List ℕ → ℕ

@@ -31,13 +31,13 @@ module _ (c input cs : List ℕ) where
   abbrev ms : List ℕ
   ms = transcript c (honest c input) cs
 
-  -- nothing is refused
-  pub record Provable : Type 0 where
+  -- nothing is refused: the transcript is whole
+  pub record Whole : Type 0 where
     pub legal : LegalCircuit c
     pub words : length ms ≡ messageWords c
 
-  pub provable : listsRefusal c input cs ≡ 0 → Provable
-  provable e =
+  pub whole : listsRefusal c input cs ≡ 0 → Whole
+  whole e =
       let lists = first-none (listsCause c input) (needCoins c cs 0) e in
       let number = need-none (eqb (length cs) (coinCount c)) 10 _ (lists .1) in
       let small = need-none (allBelow (primeOf c) cs) 11 _ (number .1) in
@@ -88,7 +88,7 @@ module _ (c input cs : List ℕ) where
             e ∙ ap (λ (k : ℕ). proofOf k (value c input) (messageWords c)) cause in
             let output : y ≡ value c input = cc in
             let count : n ≡ messageWords c = cc in
-            let p = provable none in
+            let p = whole none in
             let wrote : after ≡ over ms buffer = eb ∙ ap (λ (k : ℕ). cond (eqb k 0) (over ms buffer) buffer) cause in
             let front : take n after ≡ ms = ap₂ (λ (i : ℕ) (l : List ℕ). take i l) (count ∙ sym (p .words)) wrote ∙ take-over ms buffer in
             let words : length (take n after) ≡ messageWords c = ap length front ∙ p .words in

@@ -15,14 +15,14 @@ use Rattle.printing.proofs.Lengths.{answer-short}
 use Rattle.transcript_text.specs.Limits.{maxText}
 use Rattle.transcript_text.specs.Transcript.{listsRefusal, listsText}
 use Rattle.transcript_text.proofs.Limits.{messages-short}
-use Rattle.transcript_text.proofs.Answers.{provable}
+use Rattle.transcript_text.proofs.Answers.{whole}
 
 pub lists-short : (c input cs : List ℕ) → length (listsText c input cs) ≤ maxText
 unfolding listsText
 lists-short c input cs =
     answer-short (listsRefusal c input cs) _ maxText (omega arith)
     (λ e.
-    let p = provable c input cs e in
+    let p = whole c input cs e in
     let first = line-short (ascii "claim") (value c input ∷ []) in
     let others = messages-short c (rounds c) (transcript c (honest c input) cs) in
     rw length-append (omega (arith, first, others, p .words, as-many c, in-limits c (p .legal) .coins, in-limits c (p .legal) .messages)))
