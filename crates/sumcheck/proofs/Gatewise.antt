@@ -6,7 +6,7 @@ use mathlib.Core.Bool.{Bool, true, false, cond, not, _||_, or-false}
 use mathlib.Core.Logic.{inl, inr}
 use mathlib.Core.List.{List, [], _∷_, _++_, map, append-nil, append-assoc}
 use Prim.Native.Nat.{ℕ, suc, _+_, _-_, _*_, _/_, _%_, _^_, _≤_, _<_, Fin}
-use native.Mathlib.Nat.{mod-lt, zero-add, add-zero, div-one}
+use native.Mathlib.Nat.{mod-lt, zero-add, div-one}
 use native.Mathlib.Omega.{arith}
 use lib.Dec.{ltb}
 use lib.ListN.{length, take, drop, getD, length-append, length-map}
@@ -46,7 +46,7 @@ use Rattle.sumcheck.proofs.Hom.{hom-cond, hom-sumMessage}
 use Rattle.sumcheck.proofs.Message.{sum-value}
 use Rattle.sumcheck.proofs.Words.{sum-message-words}
 use Rattle.sumcheck.proofs.Layer.{wires, operateAt, reached, partial-gates}
-use Rattle.sumcheck.proofs.Sides.{bits-split, toward, share-is, own-is, other-own, none-one, one-is, along}
+use Rattle.sumcheck.proofs.Sides.{bits-split, toward, Restricted, share-is, own-is, other-own, none-one, one-is, along}
 
 module _ {C : Type 0} {N : Numbers C} (R : Ring N) where
   open Numbers N using (𝟘, 𝟙, add as _⊕_, sub as _⊖_, mul as _⊗_)
@@ -109,33 +109,13 @@ module _ {C : Type 0} {N : Numbers C} (R : Ring N) where
       linear-right R kind x (toward N t y y′) ∙ toward-linear t y y′ _ _
       ∙ sym (ap₂ (toward N t) (linear-right R kind x y) (linear-right R kind x y′))
 
-  -- A GATE'S TERM, its wires' bits being pre for the coordinates fixed, b for the next one and post
-  opened : (k : ℕ) (vs xs : List C) (r : C) (g : Gate) (pre : List Bool) (b : Bool) (post : List Bool) (w o : C)
-      → wires k g ≡ pre ++ (b ∷ post) → length pre ≡ length xs → operateAt N k vs g (xs ++ (r ∷ corner N post)) ≡ o
-      → w ⊗ weightOfBits N (take (length (xs ++ (r ∷ []))) (wires k g)) (xs ++ (r ∷ [])) ⊗ operateAt N k vs g (reached N k (xs ++ (r ∷ [])) g)
-      ≡ w ⊗ weightOfBits N pre xs ⊗ (factor N b r ⊗ o)
-  opened k vs xs r g pre b post w o e n h =
-      let ys : List C = xs ++ (r ∷ []) in
-      let cut : wires k g ≡ (pre ++ (b ∷ [])) ++ post = e ∙ sym (append-assoc pre (b ∷ []) post) in
-      let size : length (pre ++ (b ∷ [])) ≡ length ys = length-append pre (b ∷ []) ∙ ap (λ (m : ℕ). m + 1) n ∙ sym (length-append xs (r ∷ [])) in
-      let front : take (length ys) (wires k g) ≡ pre ++ (b ∷ []) = ap (take (length ys)) cut ∙ take-at (pre ++ (b ∷ [])) post (length ys) size in
-      let back : drop (length ys) (wires k g) ≡ post = ap (drop (length ys)) cut ∙ drop-at (pre ++ (b ∷ [])) post (length ys) size in
-      ap₂ (λ (f l : List Bool). w ⊗ weightOfBits N f ys ⊗ operateAt N k vs g (ys ++ corner N l)) front back
-      ∙ ap₂ (λ (x y : C). w ⊗ x ⊗ y)
-      (weight-append R pre (b ∷ []) xs (r ∷ []) n
-      ∙ ap (λ (x : C). weightOfBits N pre xs ⊗ x) (weight-more N b [] r [] ∙ ap (λ (x : C). factor N b r ⊗ x) (weight-none N [])))
-      (ap (operateAt N k vs g) (append-assoc xs (r ∷ []) (corner N post)) ∙ h)
-      ∙ shift w (weightOfBits N pre xs) (factor N b r) o
-    where
-      shift : (w x f o : C) → w ⊗ (x ⊗ (f ⊗ 𝟙)) ⊗ o ≡ w ⊗ x ⊗ (f ⊗ o)
-      shift w x f o = simp ring
-
   -- the two points' coordinates in one list, the first k being u
   split-at : (k : ℕ) (vs u v : List C) (g : Gate) → length u ≡ k
       → operateAt N k vs g (u ++ v) ≡ operate N (g .kind) (extension N vs u) (extension N vs v)
   unfolding operateAt
   split-at k vs u v g e = ap₂ (λ (x y : List C). operate N (g .kind) (extension N vs x) (extension N vs y)) (take-at u v k e) (drop-at u v k e)
 
+  -- A GATE'S TERM
   abbrev term : ℕ → List C → List C → C → C → Gate → C
   term k vs xs r w g =
       w ⊗ weightOfBits N (take (length (xs ++ (r ∷ []))) (wires k g)) (xs ++ (r ∷ [])) ⊗ operateAt N k vs g (reached N k (xs ++ (r ∷ [])) g)
@@ -146,112 +126,102 @@ module _ {C : Type 0} {N : Numbers C} (R : Ring N) where
       w ⊗ (share N l (g .left) ⊗ share N r (g .right))
       ⊗ (factor N (gateIsOne N l r g) z ⊗ toward N (factor N (gateIsOne N l r g) z) (gateOther N l r g) (gateOwn N l r g))
 
-  joined : (k : ℕ) (vs xs : List C) (z w : C) (g : Gate) (l r : Side C) (pre : List Bool) (b : Bool) (post : List Bool)
-      → wires k g ≡ pre ++ (b ∷ post) → length pre ≡ length xs → weightOfBits N pre xs ≡ share N l (g .left) ⊗ share N r (g .right)
-      → gateIsOne N l r g ≡ b
-      → operateAt N k vs g (xs ++ (z ∷ corner N post)) ≡ toward N (factor N b z) (gateOther N l r g) (gateOwn N l r g)
-      → term k vs xs z w g ≡ tabled l r z w g
-  joined k vs xs z w g l r pre b post cut size shares one value =
-      opened k vs xs z g pre b post w (toward N (factor N b z) (gateOther N l r g) (gateOwn N l r g)) cut size value
-      ∙ ap₂ (λ (x : C) (c : Bool). w ⊗ x ⊗ (factor N c z ⊗ toward N (factor N c z) (gateOther N l r g) (gateOwn N l r g))) shares (sym one)
+  -- a gate in the round that fixes z after xs: its wires' bits before and after the round's own, and its term's factors as the two sides have them
+  record Split (k : ℕ) (vs xs : List C) (z : C) (l r : Side C) (g : Gate) : Type 0 where
+    pre : List Bool
+    post : List Bool
+    cut : wires k g ≡ pre ++ (gateIsOne N l r g ∷ post)
+    size : length pre ≡ length xs
+    shares : weightOfBits N pre xs ≡ share N l (g .left) ⊗ share N r (g .right)
+    value : operateAt N k vs g (xs ++ (z ∷ corner N post)) ≡ toward N (factor N (gateIsOne N l r g) z) (gateOther N l r g) (gateOwn N l r g)
 
-  in-first : (k : ℕ) (vs u : List C) (n : ℕ) (z w : C) (g : Gate) → length u + suc n ≡ k → length vs ≡ 2 ^ k → g .left < 2 ^ k → g .right < 2 ^ k
-      → term k vs u z w g ≡ tabled (sideOf N k vs u true) (sideOf N k vs [] false) z w g
-  unfolding bits
-  in-first k vs u n z w g parts e hl hr =
-      joined k vs u z w g l r pre b (bits n (g .left) ++ bits k (g .right))
-      (ap (λ (j : ℕ). bits j (g .left) ++ bits k (g .right)) (sym parts)
-      ∙ ap (λ (bs : List Bool). bs ++ bits k (g .right)) (bits-split (length u) (suc n) (g .left))
-      ∙ append-assoc pre (b ∷ bits n (g .left)) (bits k (g .right)))
-      (length-bits (length u) (g .left / 2 ^ suc n))
-      (plain (weightOfBits N pre u)
-      ∙ sym (ap₂ _⊗_ (share-is R k vs u (suc n) parts e true (g .left) hl) (share-is R k vs [] k (zero-add k) e false (g .right) hr ∙ weight-none N [])))
-      (ap₂ _||_ (one-is R k vs u n parts e (g .left)) (none-one R k vs [] k (zero-add k) e (g .right)) ∙ or-false b)
-      (ap (operateAt N k vs g)
-      (ap (λ (zs : List C). u ++ (z ∷ zs)) (map-append (bit N) (bits n (g .left)) (bits k (g .right))) ∙ sym (append-assoc u (z ∷ near) far))
-      ∙ split-at k vs (u ++ (z ∷ near)) far g (length-append u (z ∷ near) ∙ ap (λ (m : ℕ). length u + suc m) (length-corner N n (g .left)) ∙ parts)
-      ∙ ap₂ (operate N (g .kind)) (along R k vs u n parts e (g .left) z) (sym (own-is R k vs [] k (zero-add k) e false (g .right)))
-      ∙ operate-left (g .kind) (factor N b z) (other N l (g .left)) (own N l (g .left)) (own N r (g .right))
-      ∙ ap (λ (y : C). toward N (factor N b z) (operate N (g .kind) (other N l (g .left)) y) (gateOwn N l r g))
-      (sym (other-own R k vs [] k (zero-add k) e (g .right))))
+  joined : {k : ℕ} {vs xs : List C} {z : C} {l r : Side C} {g : Gate} → Split k vs xs z l r g → (w : C) → term k vs xs z w g ≡ tabled l r z w g
+  joined {k} {vs} {xs} {z} {l} {r} {g} h w =
+      let b = gateIsOne N l r g in
+      let ys : List C = xs ++ (z ∷ []) in
+      let front : List Bool = h .pre ++ (b ∷ []) in
+      let cut : wires k g ≡ front ++ h .post = h .cut ∙ sym (append-assoc (h .pre) (b ∷ []) (h .post)) in
+      let size : length front ≡ length ys = length-append (h .pre) (b ∷ []) ∙ ap (λ (m : ℕ). m + 1) (h .size) ∙ sym (length-append xs (z ∷ [])) in
+      ap₂ (λ (f l : List Bool). w ⊗ weightOfBits N f ys ⊗ operateAt N k vs g (ys ++ corner N l))
+      (ap (take (length ys)) cut ∙ take-at front (h .post) (length ys) size) (ap (drop (length ys)) cut ∙ drop-at front (h .post) (length ys) size)
+      ∙ ap₂ (λ (x y : C). w ⊗ x ⊗ y)
+      (weight-append R (h .pre) (b ∷ []) xs (z ∷ []) (h .size)
+      ∙ ap₂ _⊗_ (h .shares) (weight-more N b [] z [] ∙ ap (λ (x : C). factor N b z ⊗ x) (weight-none N [])))
+      (ap (operateAt N k vs g) (append-assoc xs (z ∷ []) (corner N (h .post))) ∙ h .value)
+      ∙ shift w (share N l (g .left) ⊗ share N r (g .right)) (factor N b z) (toward N (factor N b z) (gateOther N l r g) (gateOwn N l r g))
     where
-      l : Side C
-      l = sideOf N k vs u true
+      shift : (w x f o : C) → w ⊗ (x ⊗ (f ⊗ 𝟙)) ⊗ o ≡ w ⊗ x ⊗ (f ⊗ o)
+      shift w x f o = simp ring
 
-      r : Side C
-      r = sideOf N k vs [] false
-
-      pre : List Bool
-      pre = bits (length u) (g .left / 2 ^ suc n)
-
-      b : Bool
-      b = odd (g .left / 2 ^ n)
-
-      near : List C
-      near = corner N (bits n (g .left))
-
-      far : List C
-      far = corner N (bits k (g .right))
-
-      plain : (x : C) → x ≡ x ⊗ 𝟙
-      plain x = simp ring
-
-  in-second : (k : ℕ) (vs u v : List C) (n : ℕ) (z w : C) (g : Gate) → length u ≡ k → length v + suc n ≡ k → length vs ≡ 2 ^ k → g .left < 2 ^ k → g .right < 2 ^ k
-      → term k vs (u ++ v) z w g ≡ tabled (sideOf N k vs u false) (sideOf N k vs v true) z w g
+  in-first : {k : ℕ} {vs u : List C} {n : ℕ} → Restricted k vs u (suc n) → (z : C) (g : Gate) → (g .left < 2 ^ k) × (g .right < 2 ^ k)
+      → Split k vs u z (sideOf N k vs u true) (sideOf N k vs [] false) g
   unfolding bits
-  in-second k vs u v n z w g whole parts e hl hr =
-      joined k vs (u ++ v) z w g l r (first ++ second) b (bits n (g .right))
-      (ap (λ (j : ℕ). first ++ bits j (g .right)) (sym parts)
-      ∙ ap (λ (bs : List Bool). first ++ bs) (bits-split (length v) (suc n) (g .right))
-      ∙ sym (append-assoc first second (b ∷ bits n (g .right))))
-      (length-append first second ∙ ap₂ _+_ sized (length-bits (length v) (g .right / 2 ^ suc n)) ∙ sym (length-append u v))
-      (weight-append R first second u v sized
-      ∙ sym (ap₂ _⊗_
-      (share-is R k vs u 0 (add-zero (length u) ∙ whole) e false (g .left) hl
-      ∙ ap₂ (λ (j i : ℕ). weightOfBits N (bits j i) u) whole (div-one (g .left)))
-      (share-is R k vs v (suc n) parts e true (g .right) hr)))
-      (ap₂ _||_ (none-one R k vs u 0 (add-zero (length u) ∙ whole) e (g .left)) (one-is R k vs v n parts e (g .right)))
-      (ap (operateAt N k vs g) (append-assoc u v (z ∷ near))
-      ∙ split-at k vs u (v ++ (z ∷ near)) g whole
-      ∙ ap₂ (operate N (g .kind))
-      (ap (extension N vs) (sym (append-nil u)) ∙ sym (own-is R k vs u 0 (add-zero (length u) ∙ whole) e false (g .left)))
-      (along R k vs v n parts e (g .right) z)
-      ∙ operate-right (g .kind) (factor N b z) (own N l (g .left)) (other N r (g .right)) (own N r (g .right))
-      ∙ ap (λ (x : C). toward N (factor N b z) (operate N (g .kind) x (other N r (g .right))) (gateOwn N l r g))
-      (sym (other-own R k vs u 0 (add-zero (length u) ∙ whole) e (g .left))))
-    where
-      l : Side C
-      l = sideOf N k vs u false
+  in-first {k} {vs} {u} {n} s z g h =
+      let l = sideOf N k vs u true in
+      let r = sideOf N k vs [] false in
+      let none : Restricted k vs [] k = record { parts = zero-add k; whole = s .whole } in
+      let pre : List Bool = bits (length u) (g .left / 2 ^ suc n) in
+      let b : Bool = odd (g .left / 2 ^ n) in
+      let one : gateIsOne N l r g ≡ b = ap₂ _||_ (one-is R s (g .left)) (none-one R none (g .right)) ∙ or-false b in
+      let near : List C = corner N (bits n (g .left)) in
+      let far : List C = corner N (bits k (g .right)) in
+      record {
+        pre = pre;
+        post = bits n (g .left) ++ bits k (g .right);
+        cut = rw one (ap (λ (j : ℕ). bits j (g .left) ++ bits k (g .right)) (sym (s .parts))
+            ∙ ap (λ (bs : List Bool). bs ++ bits k (g .right)) (bits-split (length u) (suc n) (g .left))
+            ∙ append-assoc pre (b ∷ bits n (g .left)) (bits k (g .right)));
+        size = length-bits (length u) (g .left / 2 ^ suc n);
+        shares = sym (ap₂ _⊗_ (share-is R s true (g .left) (h .0)) (share-is R none false (g .right) (h .1) ∙ weight-none N []) ∙ R .mul-one _);
+        value = rw one (ap (operateAt N k vs g)
+            (ap (λ (zs : List C). u ++ (z ∷ zs)) (map-append (bit N) (bits n (g .left)) (bits k (g .right))) ∙ sym (append-assoc u (z ∷ near) far))
+            ∙ split-at k vs (u ++ (z ∷ near)) far g (length-append u (z ∷ near) ∙ ap (λ (m : ℕ). length u + suc m) (length-corner N n (g .left)) ∙ s .parts)
+            ∙ ap₂ (operate N (g .kind)) (along R s (g .left) z) (sym (own-is R none false (g .right)))
+            ∙ operate-left (g .kind) (factor N b z) (other N l (g .left)) (own N l (g .left)) (own N r (g .right))
+            ∙ ap (λ (y : C). toward N (factor N b z) (operate N (g .kind) (other N l (g .left)) y) (gateOwn N l r g)) (sym (other-own R none (g .right))));
+      }
 
-      r : Side C
-      r = sideOf N k vs v true
-
-      first : List Bool
-      first = bits k (g .left)
-
-      second : List Bool
-      second = bits (length v) (g .right / 2 ^ suc n)
-
-      sized : length first ≡ length u
-      sized = length-bits k (g .left) ∙ sym whole
-
-      b : Bool
-      b = odd (g .right / 2 ^ n)
-
-      near : List C
-      near = corner N (bits n (g .right))
+  in-second : {k : ℕ} {vs u v : List C} {n : ℕ} → Restricted k vs u 0 → Restricted k vs v (suc n) → (z : C) (g : Gate)
+      → (g .left < 2 ^ k) × (g .right < 2 ^ k) → Split k vs (u ++ v) z (sideOf N k vs u false) (sideOf N k vs v true) g
+  unfolding bits
+  in-second {k} {vs} {u} {v} {n} all s z g h =
+      let l = sideOf N k vs u false in
+      let r = sideOf N k vs v true in
+      let whole : length u ≡ k = omega arith in
+      let first : List Bool = bits k (g .left) in
+      let second : List Bool = bits (length v) (g .right / 2 ^ suc n) in
+      let sized : length first ≡ length u = length-bits k (g .left) ∙ sym whole in
+      let b : Bool = odd (g .right / 2 ^ n) in
+      let one : gateIsOne N l r g ≡ b = ap₂ _||_ (none-one R all (g .left)) (one-is R s (g .right)) in
+      let near : List C = corner N (bits n (g .right)) in
+      record {
+        pre = first ++ second;
+        post = bits n (g .right);
+        cut = rw one (ap (λ (j : ℕ). first ++ bits j (g .right)) (sym (s .parts))
+            ∙ ap (λ (bs : List Bool). first ++ bs) (bits-split (length v) (suc n) (g .right))
+            ∙ sym (append-assoc first second (b ∷ bits n (g .right))));
+        size = length-append first second ∙ ap₂ _+_ sized (length-bits (length v) (g .right / 2 ^ suc n)) ∙ sym (length-append u v);
+        shares = weight-append R first second u v sized
+            ∙ sym (ap₂ _⊗_
+            (share-is R all false (g .left) (h .0) ∙ ap₂ (λ (j i : ℕ). weightOfBits N (bits j i) u) whole (div-one (g .left)))
+            (share-is R s true (g .right) (h .1)));
+        value = rw one (ap (operateAt N k vs g) (append-assoc u v (z ∷ near))
+            ∙ split-at k vs u (v ++ (z ∷ near)) g whole
+            ∙ ap₂ (operate N (g .kind)) (ap (extension N vs) (sym (append-nil u)) ∙ sym (own-is R all false (g .left))) (along R s (g .right) z)
+            ∙ operate-right (g .kind) (factor N b z) (own N l (g .left)) (other N r (g .right)) (own N r (g .right))
+            ∙ ap (λ (x : C). toward N (factor N b z) (operate N (g .kind) x (other N r (g .right))) (gateOwn N l r g)) (sym (other-own R all (g .left))));
+      }
 
   -- THE MESSAGE'S VALUE, from what the tables give of each term
   from-tables : (k : ℕ) (gs : List Gate) (point vs xs : List C) (z : C) (l r : Side C)
-      → All (λ g. (g .left < 2 ^ k) × (g .right < 2 ^ k)) gs → length gs ≤ 2 ^ length point → length xs < 2 * k
-      → ((w : C) (g : Gate) → g .left < 2 ^ k → g .right < 2 ^ k → term k vs xs z w g ≡ tabled l r z w g)
+      → All (Split k vs xs z l r) gs → length gs ≤ 2 ^ length point → length xs < 2 * k
       → valueAt N (sumsOf N (weights N point) l r gs) z ≡ partialSum N k gs point vs (xs ++ (z ∷ []))
-  from-tables k gs point vs xs z l r below few more each =
+  from-tables k gs point vs xs z l r each few more =
       three-sums-value z (gateShare N (weights N point) l r) (gateIsOne N l r) (gateOwn N l r) (gateOther N l r) gs
       ∙ sumFrom-same-below N (2 ^ length point) (λ a g. tabled l r z (getD (weights N point) a 𝟘) g) (λ a g. tabled l r z (weight N a point) g)
       (λ a g h. ap (λ (w : C). tabled l r z w g) (listed N point a h)) 0 gs (omega arith)
-      ∙ sumFrom-same-all N (λ g. (g .left < 2 ^ k) × (g .right < 2 ^ k)) (λ a g. tabled l r z (weight N a point) g)
-      (λ a g. term k vs xs z (weight N a point) g) (λ a g b. sym (each (weight N a point) g (b .0) (b .1))) 0 gs below
+      ∙ sumFrom-same-all N (Split k vs xs z l r) (λ a g. tabled l r z (weight N a point) g)
+      (λ a g. term k vs xs z (weight N a point) g) (λ a g h. sym (joined h (weight N a point))) 0 gs each
       ∙ sym (partial-gates R k gs point vs (xs ++ (z ∷ [])) (omega (arith, length-append xs (z ∷ []))))
 
   pub gatewise-value : (k : ℕ) (gs : List Gate) (point vs u v : List C) (z : C) → length vs ≡ 2 ^ k
@@ -260,17 +230,18 @@ module _ {C : Type 0} {N : Numbers C} (R : Ring N) where
   unfolding sumByGates
   gatewise-value k gs point vs u [] z e below few (inl h) =
       let less = h .0 in
+      let some : Restricted k vs u (suc (k - length u - 1)) = record { parts = omega arith; whole = e } in
       ap (λ (t : Bool). valueAt N (sumsOf N (weights N point) (sideOf N k vs u t) (sideOf N k vs [] (not t)) gs) z) (lt-ltb (length u) k less)
-      ∙ from-tables k gs point vs u z (sideOf N k vs u true) (sideOf N k vs [] false) below few (omega arith)
-      (λ w g hl hr. in-first k vs u (k - length u - 1) z w g (omega arith) e hl hr)
+      ∙ from-tables k gs point vs u z _ _ (all-weaken gs (in-first some z) below) few (omega arith)
       ∙ ap (λ (xs : List C). partialSum N k gs point vs (xs ++ (z ∷ []))) (sym (append-nil u))
   gatewise-value k gs point vs u (x ∷ v) z e below few (inl h) = absurd (omega (arith, h .1))
   gatewise-value k gs point vs u v z e below few (inr h) =
       let whole = h .0 in
       let less = h .1 in
+      let all : Restricted k vs u 0 = record { parts = omega arith; whole = e } in
+      let some : Restricted k vs v (suc (k - length v - 1)) = record { parts = omega arith; whole = e } in
       ap (λ (t : Bool). valueAt N (sumsOf N (weights N point) (sideOf N k vs u t) (sideOf N k vs v (not t)) gs) z) (le-ltb (length u) k (omega arith))
-      ∙ from-tables k gs point vs (u ++ v) z (sideOf N k vs u false) (sideOf N k vs v true) below few (omega (arith, length-append u v))
-      (λ w g hl hr. in-second k vs u v (k - length v - 1) z w g whole (omega arith) e hl hr)
+      ∙ from-tables k gs point vs (u ++ v) z _ _ (all-weaken gs (in-second all some z) below) few (omega (arith, length-append u v))
 
 -- MAPS THAT KEEP THE OPERATIONS
 module _ {C D : Type 0} {N : Numbers C} {M : Numbers D} {h : C → D} (H : Hom N M h) where

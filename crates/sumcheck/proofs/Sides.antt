@@ -93,6 +93,11 @@ module _ {C : Type 0} (N : Numbers C) where
   abbrev pub toward : C → C → C → C
   toward t x y = x ⊕ t ⊗ (y ⊖ x)
 
+-- a layer of 2^k values restricted to the points that begin with xs: m coordinates are free
+pub record Restricted {C : Type 0} (k : ℕ) (vs xs : List C) (m : ℕ) : Type 0 where
+  pub parts : length xs + m ≡ k
+  pub whole : length vs ≡ 2 ^ k
+
 module _ {C : Type 0} {N : Numbers C} (R : Ring N) where
   open Numbers N using (𝟘)
 
@@ -104,20 +109,20 @@ module _ {C : Type 0} {N : Numbers C} (R : Ring N) where
   between-toward false r f =
       solve R (r ∷ f false ∷ f true ∷ []) ((𝟏 :- var 0) :* var 1 :+ var 0 :* var 2) (var 2 :+ (𝟏 :- var 0) :* (var 1 :- var 2)) tt
 
-  -- THE TABLES OF A SIDE: m coordinates are not fixed
-  module _ (k : ℕ) (vs xs : List C) (m : ℕ) (parts : length xs + m ≡ k) (e : length vs ≡ 2 ^ k) where
+  -- THE TABLES OF A SIDE
+  module _ {k : ℕ} {vs xs : List C} {m : ℕ} (s : Restricted k vs xs m) where
     free : k - length xs ≡ m
-    free = omega (arith, parts)
+    free = omega arith
 
     pub share-is : (next : Bool) (i : ℕ) → i < 2 ^ k → share N (sideOf N k vs xs next) i ≡ weightOfBits N (bits (length xs) (i / 2 ^ m)) xs
     share-is next i h =
-        let whole : 2 ^ k ≡ 2 ^ (length xs + m) = ap (λ (n : ℕ). 2 ^ n) (sym parts) in
+        let whole : 2 ^ k ≡ 2 ^ (length xs + m) = ap (λ (n : ℕ). 2 ^ n) (sym (s .parts)) in
         ap (λ (n : ℕ). getD (weights N xs) (i / 2 ^ n) 𝟘) free ∙ listed N xs (i / 2 ^ m) (shr-lt (length xs) m (omega arith))
 
     entry : (i : ℕ) → getD (folded N xs vs) (i % 2 ^ (k - length xs)) 𝟘 ≡ extension N vs (xs ++ corner N (bits m (i % 2 ^ m)))
     entry i =
         ap (λ (n : ℕ). getD (folded N xs vs) (i % 2 ^ n) 𝟘) free
-        ∙ folded-entry R xs vs m (i % 2 ^ m) (e ∙ ap (λ (n : ℕ). 2 ^ n) (sym parts)) (mod-lt i (pow-pos m))
+        ∙ folded-entry R xs vs m (i % 2 ^ m) (s .whole ∙ ap (λ (n : ℕ). 2 ^ n) (sym (s .parts))) (mod-lt i (pow-pos m))
 
     pub own-is : (next : Bool) (i : ℕ) → own N (sideOf N k vs xs next) i ≡ extension N vs (xs ++ corner N (bits m i))
     own-is next i = entry i ∙ ap (λ (bs : List Bool). extension N vs (xs ++ corner N bs)) (bits-remainder m i)
@@ -132,12 +137,12 @@ module _ {C : Type 0} {N : Numbers C} (R : Ring N) where
         le-ltb ((i + 0) % 2 ^ (k - length xs)) (i % 2 ^ (k - length xs)) (omega arith)
 
   -- where the next coordinate is this point's
-  module _ (k : ℕ) (vs xs : List C) (n : ℕ) (parts : length xs + suc n ≡ k) (e : length vs ≡ 2 ^ k) (i : ℕ) where
+  module _ {k : ℕ} {vs xs : List C} {n : ℕ} (s : Restricted k vs xs (suc n)) (i : ℕ) where
     abbrev here : Side C
     here = sideOf N k vs xs true
 
     size-is : 2 ^ (k - length xs) ≡ 2 ^ suc n
-    size-is = ap (λ (m : ℕ). 2 ^ m) (free k vs xs (suc n) parts e)
+    size-is = ap (λ (m : ℕ). 2 ^ m) (free s)
 
     half-is : 2 ^ (k - length xs) / 2 ≡ 2 ^ n
     half-is = half n (2 ^ (k - length xs)) size-is
@@ -148,7 +153,7 @@ module _ {C : Type 0} {N : Numbers C} (R : Ring N) where
     other-is : other N here i ≡ extension N vs (xs ++ (bit N (not (odd (i / 2 ^ n))) ∷ corner N (bits n i)))
     other-is =
         ap (λ (h : ℕ). getD (folded N xs vs) ((i + h) % 2 ^ (k - length xs)) 𝟘) half-is
-        ∙ entry k vs xs (suc n) parts e (i + 2 ^ n) ∙ ap (λ (bs : List Bool). extension N vs (xs ++ corner N bs)) (bits-turned n i)
+        ∙ entry s (i + 2 ^ n) ∙ ap (λ (bs : List Bool). extension N vs (xs ++ corner N bs)) (bits-turned n i)
 
     pub along : (r : C) → extension N vs (xs ++ (r ∷ corner N (bits n i))) ≡ toward N (factor N (odd (i / 2 ^ n)) r) (other N here i) (own N here i)
     along r =
@@ -156,4 +161,4 @@ module _ {C : Type 0} {N : Numbers C} (R : Ring N) where
         linear R vs xs r (corner N (bits n i))
         ∙ between-toward (odd (i / 2 ^ n)) r at
         ∙ ap₂ (toward N (factor N (odd (i / 2 ^ n)) r)) (sym other-is)
-        (sym (own-is k vs xs (suc n) parts e true i ∙ ap (λ (bs : List Bool). extension N vs (xs ++ corner N bs)) (bits-suc n i)))
+        (sym (own-is s true i ∙ ap (λ (bs : List Bool). extension N vs (xs ++ corner N bs)) (bits-suc n i)))

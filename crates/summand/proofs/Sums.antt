@@ -161,8 +161,6 @@ module _ (p : ℕ) (sums : List ℕ) (x y : ℕ) where
   all-added total i h e = h .total-is ∙ ap (λ (k : ℕ). sumFrom (words p) term k (drop k sums)) e
 
 -- the summand, from all of them
-pub from-sums : (N : Numbers ℕ) (gs : List Gate) (point u v u′ v′ sums : List ℕ) (x y r : ℕ) → u′ ≡ u → v′ ≡ v
-    → sums ≡ wirings N gs point u′ v′ → r ≡ byKinds N sums x y → r ≡ combined N gs point u v x y
+pub from-sums : (N : Numbers ℕ) (gs : List Gate) (point u v : List ℕ) (x y : ℕ) → byKinds N (wirings N gs point u v) x y ≡ combined N gs point u v x y
 unfolding combined sumFrom
-from-sums N gs point u v u′ v′ sums x y r eu ev es e =
-    e ∙ ap (λ (l : List ℕ). byKinds N l x y) (es ∙ ap₂ (wirings N gs point) eu ev)
+from-sums N gs point u v x y = refl

@@ -2,7 +2,7 @@
 -- Assumes nothing.
 use mathlib.Core.Path.{_≡_, refl, sym, ap, ap₂, _∙_}
 use mathlib.Core.Bool.{Bool, true, false, cond, _||_}
-use mathlib.Core.List.{List, [], _∷_}
+use mathlib.Core.List.{List}
 use Prim.Native.Nat.{ℕ, _-_, _/_, _%_, _≤_, _<_}
 use native.Mathlib.Nat.{mul-zero, zero-mod}
 use native.Mathlib.Omega.{arith}
@@ -11,7 +11,7 @@ use Rattle.algebra.specs.Numbers.{Numbers, words}
 use Rattle.algebra.proofs.Euclid.{mod-mul-right}
 use Rattle.multilinear.specs.Extension.{sumFrom}
 use Rattle.circuit.specs.Gate.{Gate, operate}
-use Rattle.sumcheck.specs.Gatewise.{Side, threeSums, gateShare, gateIsOne, gateOwn, gateOther, sumsOf}
+use Rattle.sumcheck.specs.Gatewise.{Side, coefficients, threeSums, gateShare, gateIsOne, gateOwn, gateOther, sumsOf}
 use Rattle.summand.specs.Gates.{gatesIn}
 use Rattle.summand.proofs.Wires.{gateAt, sumOn, sum-none, sum-step, sum-all}
 use Rattle.sums.specs.declared.Wire.{Wire}
@@ -101,27 +101,23 @@ module _ (p : ℕ) where
       squares-are = es ∙ sum-none N squarePart (length ws / 3) ws;
     }
 
-    pub step : {zeros ones squares a weight : ℕ} {left right : Wire} {c : Counts} {zeros′ ones′ squares′ : ℕ}
-        → Passed zeros ones squares a → 0 < a → Known (a - 1) weight left right c
-        → zeros′ ≡ N .add (N .mul (c .share) (c .zeros)) zeros → ones′ ≡ N .add (N .mul (c .share) (c .ones)) ones
-        → squares′ ≡ N .add (N .mul (c .share) (c .squares)) squares
-        → Passed zeros′ ones′ squares′ (a - 1)
-    step {zeros} {ones} {squares} {a} h more known ez eo es =
+    pub step : {zeros ones squares a weight : ℕ} {left right : Wire} {c : Counts} → Passed zeros ones squares a → 0 < a → Known (a - 1) weight left right c
+        → Passed (N .add (N .mul (c .share) (c .zeros)) zeros) (N .add (N .mul (c .share) (c .ones)) ones)
+        (N .add (N .mul (c .share) (c .squares)) squares) (a - 1)
+    step {zeros} {ones} {squares} {a} h more known =
         let n = length ws / 3 in
         let within = h .within in
         let parts = tabled known in
         record {
           within = omega arith;
-          zeros-are = ez ∙ sum-step N zeroPart n ws a _ zeros more within (parts .0) (h .zeros-are);
-          ones-are = eo ∙ sum-step N onePart n ws a _ ones more within (parts .1) (h .ones-are);
-          squares-are = es ∙ sum-step N squarePart n ws a _ squares more within (parts .2) (h .squares-are);
+          zeros-are = sum-step N zeroPart n ws a _ zeros more within (parts .0) (h .zeros-are);
+          ones-are = sum-step N onePart n ws a _ ones more within (parts .1) (h .ones-are);
+          squares-are = sum-step N squarePart n ws a _ squares more within (parts .2) (h .squares-are);
         }
 
-    pub end : {zeros ones squares a zeros′ ones′ squares′ less middle : ℕ} → Passed zeros ones squares a → a ≡ 0
-        → zeros′ ≡ zeros → ones′ ≡ ones → squares′ ≡ squares → less ≡ N .sub ones′ zeros′ → middle ≡ N .sub less squares′
-        → zeros′ ∷ middle ∷ squares′ ∷ [] ≡ sumsOf N ps l r (gatesIn ws)
+    pub end : {zeros ones squares a : ℕ} → Passed zeros ones squares a → a ≡ 0 → coefficients N zeros ones squares ≡ sumsOf N ps l r (gatesIn ws)
     unfolding threeSums
-    end {zeros} {ones} {squares} {a} h e ez eo es el em =
+    end {zeros} {ones} {squares} {a} h e =
         let n = length ws / 3 in
         let all : (x : ℕ → Gate → ℕ) (s : ℕ) → s ≡ sumOn N x n ws a → s ≡ sumFrom N x 0 (gatesIn ws) =
         λ x s q. q ∙ ap (sumOn N x n ws) e ∙ sum-all N x n ws in

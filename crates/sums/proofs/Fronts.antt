@@ -1,7 +1,7 @@
 -- The tables stand at the front of arrays of the widest layer's length, so the parts that are lent are the tables; and the numbers of
 -- coordinates, clipped, take the coordinates that are fixed.
 -- Assumes nothing.
-use mathlib.Core.Path.{_≡_, refl, sym, ap, ap₂, _∙_}
+use mathlib.Core.Path.{_≡_, refl, sym, ap, _∙_}
 use mathlib.Core.Bool.{Bool, true, false, cond, not}
 use mathlib.Core.List.{List, [], _∷_}
 use Prim.Native.Nat.{ℕ, _-_, _/_, _^_, _≤_, min, zero-le}
@@ -27,10 +27,10 @@ use Rattle.circuit.specs.Limits.{maxExponent}
 use Rattle.circuit.specs.Gate.{Gate}
 use Rattle.circuit.specs.Circuit.{widthOf}
 use Rattle.circuit.proofs.Sized.{width-of, width-small}
-use Rattle.sumcheck.specs.Gatewise.{Side, sideOf, sumsOf, sumByGates}
+use Rattle.sumcheck.specs.Gatewise.{sideOf, sumsOf, sumByGates}
 use Rattle.sums.specs.declared.Cut.{Cut}
 use Rattle.sums.specs.Wire.{CutAt, Fits, side}
-use Rattle.sums.specs.Round.{fixedFirst, fixedSecond}
+use Rattle.sums.specs.Round.{fixedFirst, fixedSecond, sideAt}
 
 -- THE LIMITS: a point of the largest exponent fills its row, and the values of such a layer fill a table
 pub row-is : rowLength ≡ maxExponent
@@ -54,13 +54,8 @@ cut-fits k n next c h small =
     go false = zero-le
 
 -- THE PARTS THAT ARE LENT
-pub width-within : (k n : ℕ) (entries table : List ℕ) → Table entries table → n ≡ widthOf k → n ≤ length table
+width-within : (k n : ℕ) (entries table : List ℕ) → Table entries table → n ≡ widthOf k → n ≤ length table
 width-within k n entries table t e = let size = t .size in omega (arith, table-is, width-small k)
-
-pub values-within : (m k n : ℕ) (entries table : List ℕ) → Table entries table → n ≡ min tableWidth m → n / 2 ^ k ≤ length table
-values-within m k n entries table t e =
-    let size = t .size in
-    omega (arith, shr-le n k, min-le-left tableWidth m)
 
 pub lent : (n : ℕ) (table : List ℕ) → n ≤ length table → n ≡ length (take n table)
 lent n table h = sym (length-take-le n table h)
@@ -68,11 +63,19 @@ lent n table h = sym (length-take-le n table h)
 pub values-lent : (m n : ℕ) (values : List ℕ) → n ≡ min m (length values) → n ≡ length (take n values)
 values-lent m n values e = lent n values (omega (arith, min-le-right m (length values)))
 
+-- the next coordinate is the second point's where it is not the first's
+leb-not : (a b : ℕ) → leb a b ≡ not (ltb b a)
+leb-not a b = go (decLe a b)
+  where
+    go : Dec (a ≤ b) → leb a b ≡ not (ltb b a)
+    go (yes h) = le-leb a b h ∙ ap not (sym (le-ltb b a h))
+    go (no h) = lt-leb a b (omega arith) ∙ ap not (sym (lt-ltb b a (omega arith)))
+
 module _ (p : ℕ) where
   abbrev N : Numbers ℕ
   N = words p
 
-  pub weights-lent : (k n : ℕ) (xs table : List ℕ) → length xs ≡ k → k ≤ maxExponent → n ≡ widthOf k
+  weights-lent : (k n : ℕ) (xs table : List ℕ) → length xs ≡ k → k ≤ maxExponent → n ≡ widthOf k
       → Table (weights N xs) table → take n table ≡ weights N xs
   weights-lent k n xs table size small e t =
       front-take t n (e ∙ width-of k small ∙ ap (λ (m : ℕ). 2 ^ m) (sym size) ∙ sym (length-weights N xs))
@@ -84,74 +87,61 @@ module _ (p : ℕ) where
       length-of-folded xs (fold N x vs) ∙ ap (λ (m : ℕ). m / 2 ^ length xs) (length-fold N x vs) ∙ shr-shr (length vs) 1 (length xs)
       ∙ ap (λ (m : ℕ). length vs / 2 ^ m) (one-add (length xs))
 
-  pub folded-lent : (k n : ℕ) (values xs table : List ℕ) → length xs ≡ k → n ≡ min tableWidth (length values)
-      → Table (folded N xs (take tableWidth values)) table → take (n / 2 ^ k) table ≡ folded N xs (take tableWidth values)
-  folded-lent k n values xs table size e t =
-      front-take t (n / 2 ^ k)
-      (ap₂ (λ (m j : ℕ). m / 2 ^ j) (e ∙ sym (length-take tableWidth values)) (sym size) ∙ sym (length-of-folded xs (take tableWidth values)))
+  -- THE TABLES of a point with the first n coordinates of its row fixed: w shares are lent, and of m values what these leave
+  pub record Fixed (n m w : ℕ) (values row shares table : List ℕ) : Type 0 where
+    pub whole : length row ≡ rowLength
+    pub within : n ≤ maxExponent
+    pub values-are : m ≡ min tableWidth (length values)
+    pub width-is : w ≡ widthOf n
+    pub weighed : Table (weights N (take n row)) shares
+    pub folds : Table (folded N (take n row) (take tableWidth values)) table
 
-  pub side-is : (k n : ℕ) (next : Bool) (vs xs shares table : List ℕ) (c : Cut) → length xs ≡ n → CutAt k n next c
-      → shares ≡ weights N xs → table ≡ folded N xs vs → side shares table c ≡ sideOf N k vs xs next
-  side-is k n next vs xs shares table c size h es et =
-      ap₂ (λ (a b : List ℕ). made a b (c .size) (c .half)) es et
-      ∙ ap₂ (made (weights N xs) (folded N xs vs))
-      (h .size ∙ ap (λ (m : ℕ). 2 ^ (k - m)) (sym size)) (h .half ∙ ap (λ (m : ℕ). cond next (2 ^ (k - m) / 2) 0) (sym size))
-    where
-      made : List ℕ → List ℕ → ℕ → ℕ → Side ℕ
-      made a b z h = record { shares = a; table = b; size = z; half = h }
+  module _ {n m w : ℕ} {values row shares table : List ℕ} (h : Fixed n m w values row shares table) where
+    pub shares-within : w ≤ length shares
+    shares-within = width-within n w _ shares (h .weighed) (h .width-is)
 
-  -- the side of a point with n coordinates fixed, from its tables
-  pub fixed-side : (k n m w : ℕ) (next : Bool) (values xs shares table : List ℕ) (c : Cut) → n ≤ length xs → n ≤ maxExponent
-      → CutAt k n next c → m ≡ min tableWidth (length values) → w ≡ widthOf n
-      → Table (weights N (take n xs)) shares → Table (folded N (take n xs) (take tableWidth values)) table
-      → side (take w shares) (take (m / 2 ^ n) table) c ≡ sideOf N k (take tableWidth values) (take n xs) next
-  fixed-side k n m w next values xs shares table c enough small h em ew ts tt′ =
-      let size : length (take n xs) ≡ n = length-take-le n xs enough in
-      side-is k n next (take tableWidth values) (take n xs) _ _ c size h
-      (weights-lent n w (take n xs) shares size small ew ts) (folded-lent n m values (take n xs) table size em tt′)
+    pub table-within : m / 2 ^ n ≤ length table
+    table-within = let size = h .folds .size in omega (arith, shr-le m n, min-le-left tableWidth (length values))
+
+    pub fixed-side : (k : ℕ) (next : Bool) (c : Cut) → CutAt k n next c → side (take w shares) (take (m / 2 ^ n) table) c ≡ sideAt N k values row n next
+    fixed-side k next c cut =
+        let size : length (take n row) ≡ n = length-take-le n row (omega (arith, row-is)) in
+        let left : m / 2 ^ n ≡ length (folded N (take n row) (take tableWidth values)) =
+        rw (length-of-folded (take n row) (take tableWidth values), size, length-take tableWidth values) (ap (λ (j : ℕ). j / 2 ^ n) (h .values-are)) in
+        rw (weights-lent n w (take n row) shares size (h .within) (h .width-is) (h .weighed), front-take (h .folds) (m / 2 ^ n) left, cut .size, cut .half, size)
 
   -- with none fixed: one share, and the values
-  pub open-side : (k n m : ℕ) (next : Bool) (values xs : List ℕ) (c : Cut) → n ≡ 0 → CutAt k n next c → m ≡ min tableWidth (length values)
-      → side (1 ∷ []) (take m values) c ≡ sideOf N k (take tableWidth values) (take n xs) next
+  pub open-side : (k n m : ℕ) (next : Bool) (values row : List ℕ) (c : Cut) → n ≡ 0 → CutAt k n next c → m ≡ min tableWidth (length values)
+      → side (1 ∷ []) (take m values) c ≡ sideAt N k values row n next
   unfolding weights folded
-  open-side k n m next values xs c none h em =
-      side-is k n next (take tableWidth values) (take n xs) _ _ c (ap (λ (j : ℕ). length (take j xs)) none ∙ sym none) h
-      (sym (ap (λ (j : ℕ). weights N (take j xs)) none))
-      (ap (λ (j : ℕ). take j values) em ∙ take-most tableWidth values
-      ∙ sym (ap (λ (j : ℕ). folded N (take j xs) (take tableWidth values)) none))
+  open-side k n m next values row c none cut em = rw (cut .size, cut .half, none, em, take-most)
 
--- THE COORDINATES THAT ARE FIXED
-leb-not : (a b : ℕ) → leb a b ≡ not (ltb b a)
-leb-not a b = go (decLe a b)
-  where
-    go : Dec (a ≤ b) → leb a b ≡ not (ltb b a)
-    go (yes h) = le-leb a b h ∙ ap not (sym (le-ltb b a h))
-    go (no h) = lt-leb a b (omega arith) ∙ ap not (sym (lt-ltb b a (omega arith)))
+  -- A ROUND with its numbers of coordinates clipped, and the weights at its point in a table
+  pub record Clipped (k fixed above first second width : ℕ) (point table : List ℕ) (rows : List (List ℕ)) : Type 0 where
+    pub point-whole : length point ≡ rowLength
+    pub row-whole : length (getD rows 0 []) ≡ rowLength
+    pub small : k ≤ maxExponent
+    pub first-is : first ≡ min fixed k
+    pub second-is : second ≡ min (fixed - first) k
+    pub width-is : width ≡ widthOf (min above rowLength)
+    pub weighed : Table (weights N (take above point)) table
 
-module _ (p : ℕ) (gs : List Gate) (point : List ℕ) (above : ℕ) (vs : List ℕ) (rows : List (List ℕ)) (k fixed first second width : ℕ)
-    (table message : List ℕ) where
-  pub round-is : length point ≡ rowLength → length (getD rows 0 []) ≡ rowLength → k ≤ maxExponent → first ≡ min fixed k
-      → second ≡ min (fixed - first) k → width ≡ widthOf (min above rowLength) → Table (weights (words p) (take above point)) table
-      → message ≡ sumsOf (words p) (take width table) (sideOf (words p) k vs (take first (getD rows 0 [])) (ltb first k))
-      (sideOf (words p) k vs (take second (getD rows 1 [])) (leb k first)) gs
-      → message ≡ sumByGates (words p) k gs (take above point) vs (fixedFirst k fixed rows) (fixedSecond k fixed rows)
-  unfolding sumByGates
-  round-is ep er small ef es ew t e =
-      let fewer = min-le-right fixed k in
-      let few : first ≤ k = omega arith in
-      let left : take first (getD rows 0 []) ≡ fixedFirst k fixed rows =
-      ap (λ (n : ℕ). take n (getD rows 0 [])) ef ∙ take-least fixed k (getD rows 0 []) in
-      let rest : fixed - first ≡ fixed - k = omega (arith, sub-add-min-cancel fixed k) in
-      let right : take second (getD rows 1 []) ≡ fixedSecond k fixed rows =
-      ap (λ (n : ℕ). take n (getD rows 1 [])) (es ∙ ap (λ (n : ℕ). min n k) rest) ∙ take-least (fixed - k) k (getD rows 1 []) in
-      let count : first ≡ length (fixedFirst k fixed rows) = sym (length-take-le first (getD rows 0 []) (omega arith)) ∙ ap length left in
-      let weigh : take width table ≡ weights (words p) (take above point) =
-      weights-lent p (min above rowLength) width (take above point) table
-      (length-take above point ∙ ap (min above) ep) (omega (arith, row-is, min-le-right above rowLength)) ew t in
-      e
-      ∙ ap₂ (λ (ps xs : List ℕ). sumsOf (words p) ps (sideOf (words p) k vs xs (ltb first k))
-      (sideOf (words p) k vs (take second (getD rows 1 [])) (leb k first)) gs) weigh left
-      ∙ ap₂ (λ (xs : List ℕ) (t : Bool). sumsOf (words p) (weights (words p) (take above point))
-      (sideOf (words p) k vs (fixedFirst k fixed rows) (ltb first k)) (sideOf (words p) k vs xs t) gs) right (leb-not k first)
-      ∙ ap (λ (n : ℕ). sumsOf (words p) (weights (words p) (take above point)) (sideOf (words p) k vs (fixedFirst k fixed rows) (ltb n k))
-      (sideOf (words p) k vs (fixedSecond k fixed rows) (not (ltb n k))) gs) count
+  module _ {k fixed above first second width : ℕ} {point table : List ℕ} {rows : List (List ℕ)}
+      (h : Clipped k fixed above first second width point table rows) where
+    pub weights-within : width ≤ length table
+    weights-within = width-within _ width _ table (h .weighed) (h .width-is)
+
+    pub round-is : (gs : List Gate) (vs : List ℕ)
+        → sumsOf N (take width table) (sideOf N k vs (take first (getD rows 0 [])) (ltb first k)) (sideOf N k vs (take second (getD rows 1 [])) (leb k first)) gs
+        ≡ sumByGates N k gs (take above point) vs (fixedFirst k fixed rows) (fixedSecond k fixed rows)
+    unfolding sumByGates
+    round-is gs vs =
+        let few : first ≤ k = omega (arith, min-le-right fixed k) in
+        let left : take first (getD rows 0 []) ≡ fixedFirst k fixed rows = rw (h .first-is) (take-least fixed k (getD rows 0 [])) in
+        let rest : fixed - first ≡ fixed - k = omega (arith, sub-add-min-cancel fixed k) in
+        let right : take second (getD rows 1 []) ≡ fixedSecond k fixed rows = rw (h .second-is, rest) (take-least (fixed - k) k (getD rows 1 [])) in
+        let count : first ≡ length (fixedFirst k fixed rows) = sym (length-take-le first (getD rows 0 []) (omega arith)) ∙ ap length left in
+        let weigh : take width table ≡ weights N (take above point) =
+        weights-lent (min above rowLength) width (take above point) table
+        (length-take above point ∙ ap (min above) (h .point-whole)) (omega (arith, row-is, min-le-right above rowLength)) (h .width-is) (h .weighed) in
+        rw (weigh, left, right, leb-not k first, count)

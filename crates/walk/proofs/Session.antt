@@ -1,20 +1,20 @@
 -- The session and the whole check end alike, and no answer looks ahead.
 -- Assumes nothing.
 use Prim.Native.Nat.{ℕ, zero, suc, _+_, _-_}
-use mathlib.Core.Path.{_≡_, refl, sym, ap, _∙_, subst, subst₂}
-use mathlib.Core.Bool.{Bool, true, false, _||_, cond}
+use mathlib.Core.Path.{_≡_, refl, sym, ap, _∙_}
+use mathlib.Core.Bool.{Bool, true, false, cond}
 use mathlib.Core.List.{List, [], _∷_, _++_, map, flatten, append-assoc}
 use native.Mathlib.Nat.{suc-inj, suc-ne-zero}
 use native.Mathlib.Numerals.{add-one}
 use native.Mathlib.Omega.{arith}
-use lib.ListN.{length, length-append, length-drop, take, drop, getD, take-append-drop}
+use lib.ListN.{length, length-append, length-drop, take, drop, take-append-drop}
 use lib.Seq.{take-at, drop-at, getD-at, length-take-le}
 use Rattle.lists.specs.Count.{sum}
 use Rattle.lists.proofs.Count.{sum-nil, sum-cons}
 use Rattle.refusal.specs.Order.{first}
 use Rattle.walk.specs.Game.{Game, Comparison, passes, walk}
 use Rattle.walk.specs.Rule.{Rule, said, Fits, play, byRule}
-use Rattle.walk.specs.Session.{Answer, refused, Record, ended, isAccepted, anyAccepted, endOf, stepFinal, stepLast, stepJudge, stepOpen, step, calls, at, Follows, Chain, cut}
+use Rattle.walk.specs.Session.{Answer, refused, Record, ended, anyAccepted, endOf, stepFinal, stepLast, stepJudge, stepOpen, step, calls, at, Follows, Chain, cut}
 use Rattle.walk.proofs.Play.{walk-said}
 
 module _ {R : Type 0} (g : Game R) where
@@ -65,35 +65,43 @@ module _ {R : Type 0} (g : Game R) (final : Comparison) where
   pub closed-calls : (cs : List ℕ) (s : Record R) (ms : List (List ℕ)) → s .opened ≡ false → anyAccepted (calls g final cs s ms) ≡ false
   unfolding calls anyAccepted step
   closed-calls cs s [] e = refl
-  closed-calls cs s (m ∷ ms) e =
-      let past : List ℕ = take (g .before (s .round)) cs in
-      let c : ℕ = getD cs (g .before (s .round)) 0 in
-      subst (λ (b : Bool). (isAccepted (stepOpen g final b past c s m .0) || anyAccepted (calls g final cs (stepOpen g final b past c s m .1) ms)) ≡ false) (sym e)
-      (closed-calls cs s ms e)
+  closed-calls cs s (m ∷ ms) e = rw e (rw e at (closed-calls cs s ms e))
 
-  -- a step of an open session
-  pub step-at : (past : List ℕ) (c : ℕ) (rest : List ℕ) (r : R) (claim : ℕ) (m : List ℕ) → g .before r ≡ length past
-      → step g final (past ++ c ∷ rest) (at r claim) m ≡ stepJudge g final (g .judge r past claim m) past c (at r claim) m
-  unfolding step
-  step-at past c rest r claim m e =
-      rw (take-at past (c ∷ rest) (g .before r) (sym e), getD-at past c rest 0 (g .before r) (sym e))
+  -- A STEP of an open session with the claim standing at round r, on message m and its coin c
+  module _ (past : List ℕ) (c : ℕ) (r : R) (claim : ℕ) (m : List ℕ) where
+    -- what it gives where the judge says k of the message
+    abbrev judged : ℕ → Answer × Record R
+    judged k = stepJudge g final k past c (at r claim) m
 
-  pub one-end : (k : ℕ) (past : List ℕ) (c : ℕ) (r : R) (claim : ℕ) (m : List ℕ) → g .last r ≡ true
-      → endOf (stepJudge g final k past c (at r claim) m .0 ∷ []) ≡ first k (cond (final (past ++ (c ∷ [])) (g .next m c)) 0 18)
-  unfolding endOf
-  one-end (suc k) past c r claim m e = refl
-  one-end zero past c r claim m e = rw e (go (final (past ++ (c ∷ [])) (g .next m c)))
-    where
-      go : (b : Bool) → endOf (stepFinal b (at r claim) .0 ∷ []) ≡ cond b 0 18
-      go true = refl
-      go false = refl
+    step-at : (rest : List ℕ) → g .before r ≡ length past → step g final (past ++ c ∷ rest) (at r claim) m ≡ judged (g .judge r past claim m)
+    unfolding step
+    step-at rest e = rw (take-at past (c ∷ rest) (g .before r) (sym e), getD-at past c rest 0 (g .before r) (sym e))
 
-  more-end : (k : ℕ) (past : List ℕ) (c : ℕ) (r r′ : R) (claim : ℕ) (m : List ℕ) (all : List ℕ) (ms : List (List ℕ)) (w : ℕ) → g .last r ≡ false → g .after r ≡ r′
-      → endOf (calls g final all (at r′ (g .next m c)) ms) ≡ w
-      → endOf (stepJudge g final k past c (at r claim) m .0 ∷ calls g final all (stepJudge g final k past c (at r claim) m .1) ms) ≡ first k w
-  unfolding endOf
-  more-end (suc k) past c r r′ claim m all ms w e a ih = refl
-  more-end zero past c r r′ claim m all ms w e a ih = rw (e, a) ih
+    one-end : (k : ℕ) → g .last r ≡ true → endOf (judged k .0 ∷ []) ≡ first k (cond (final (past ++ (c ∷ [])) (g .next m c)) 0 18)
+    unfolding endOf
+    one-end (suc k) e = refl
+    one-end zero e = rw e (go (final (past ++ (c ∷ [])) (g .next m c)))
+      where
+        go : (b : Bool) → endOf (stepFinal b (at r claim) .0 ∷ []) ≡ cond b 0 18
+        go true = refl
+        go false = refl
+
+    more-end : (k : ℕ) (all : List ℕ) (ms : List (List ℕ)) → g .last r ≡ false
+        → endOf (judged k .0 ∷ calls g final all (judged k .1) ms) ≡ first k (endOf (calls g final all (at (g .after r) (g .next m c)) ms))
+    unfolding endOf
+    more-end (suc k) all ms e = refl
+    more-end zero all ms e = rw e
+
+    -- what holds of the ended record and of the next round's holds of the one that the step leaves
+    after-step : (Q : Record R → Type 0) (rs : List R) → Follows g r rs → Q (ended (at r claim))
+        → ((r′ : R) (rs′ : List R) → rs ≡ r′ ∷ rs′ → Q (at r′ (g .next m c))) → (k : ℕ) → Q (judged k .1)
+    after-step Q rs f over on (suc k) = over
+    after-step Q [] f over on zero = rw f (go (final (past ++ (c ∷ [])) (g .next m c)))
+      where
+        go : (b : Bool) → Q (stepFinal b (at r claim) .1)
+        go true = over
+        go false = over
+    after-step Q (r′ ∷ rs) f over on zero = rw (f .0, f .1) (on r′ rs refl)
 
   pub session-walk : (r : R) (rs : List R) (past : List ℕ) (claim : ℕ) (ms : List (List ℕ)) (cs : List ℕ)
       → Chain g (r ∷ rs) (length past) → Sized g (r ∷ rs) ms → length cs ≡ length (r ∷ rs)
@@ -102,16 +110,16 @@ module _ {R : Type 0} (g : Game R) (final : Comparison) where
   session-walk r rs past claim [] cs ch sz n = absurd sz
   session-walk r rs past claim (m ∷ ms) [] ch sz n = absurd (suc-ne-zero _ (sym n))
   session-walk r [] past claim (m ∷ []) (c ∷ []) ch sz n =
-      rw (step-at past c [] r claim m (ch .0), take-at m [] (g .len r) (sz .0)) (one-end (g .judge r past claim m) past c r claim m (ch .1))
+      rw (step-at past c r claim m [] (ch .0), take-at m [] (g .len r) (sz .0)) (one-end past c r claim m (g .judge r past claim m) (ch .1))
   session-walk r [] past claim (m ∷ []) (c ∷ c′ ∷ cs) ch sz n = absurd (suc-ne-zero _ (suc-inj n))
   session-walk r [] past claim (m ∷ m′ ∷ ms) (c ∷ cs) ch sz n = absurd (sz .1)
   session-walk r (r′ ∷ rs) past claim (m ∷ ms) (c ∷ cs) ch sz n =
       let past′ : List ℕ = past ++ (c ∷ []) in
       let ih : endOf (calls g final (past′ ++ cs) (at r′ (g .next m c)) ms) ≡ walk g final (r′ ∷ rs) past′ (g .next m c) (flatten ms) cs =
-      session-walk r′ rs past′ (g .next m c) ms cs
-      (subst (Chain g (r′ ∷ rs)) (sym (length-append past (c ∷ []) ∙ add-one (length past))) (ch .2)) (sz .1) (suc-inj n) in
-      rw (step-at past c cs r claim m (ch .0), take-at m (flatten ms) (g .len r) (sz .0), drop-at m (flatten ms) (g .len r) (sz .0))
-      (more-end (g .judge r past claim m) past c r r′ claim m (past ++ c ∷ cs) ms _ (ch .1 .0) (ch .1 .1) (rw append-assoc at ih))
+      session-walk r′ rs past′ (g .next m c) ms cs (rw (length-append, add-one) (ch .2)) (sz .1) (suc-inj n) in
+      rw (step-at past c r claim m cs (ch .0), take-at m (flatten ms) (g .len r) (sz .0), drop-at m (flatten ms) (g .len r) (sz .0))
+      (more-end past c r claim m (g .judge r past claim m) (past ++ c ∷ cs) ms (ch .1 .0)
+      ∙ ap (first (g .judge r past claim m)) (rw (ch .1 .1) (rw append-assoc at ih)))
 
   -- the session accepts exactly when it ends with 0
   step-ends : (b : Bool) (past : List ℕ) (c : ℕ) (s : Record R) (m : List ℕ) (all : List ℕ) (ms : List (List ℕ)) → s .opened ≡ b
@@ -162,17 +170,6 @@ module _ {R : Type 0} (g : Game R) (final : Comparison) where
   closed-same all all′ s [] = refl
   closed-same all all′ s (m ∷ ms) = ap (λ (l : List Answer). refused 19 ∷ l) (closed-same all all′ s ms)
 
-  same-rest : (n : ℕ) (all all′ : List ℕ) (ms : List (List ℕ)) (k : ℕ) (past : List ℕ) (c : ℕ) (r : R) (rs : List R) (claim : ℕ) (m : List ℕ) → Follows g r rs
-      → ((r′ : R) (rs′ : List R) → rs ≡ r′ ∷ rs′ → take n (calls g final all (at r′ (g .next m c)) ms) ≡ take n (calls g final all′ (at r′ (g .next m c)) ms))
-      → take n (calls g final all (stepJudge g final k past c (at r claim) m .1) ms) ≡ take n (calls g final all′ (stepJudge g final k past c (at r claim) m .1) ms)
-  same-rest n all all′ ms (suc k) past c r rs claim m f ih = ap (take n) (closed-same all all′ (at r claim) ms)
-  same-rest n all all′ ms zero past c r [] claim m f ih = rw f (go (final (past ++ (c ∷ [])) (g .next m c)))
-    where
-      go : (b : Bool) → take n (calls g final all (stepFinal b (at r claim) .1) ms) ≡ take n (calls g final all′ (stepFinal b (at r claim) .1) ms)
-      go true = ap (take n) (closed-same all all′ (at r claim) ms)
-      go false = ap (take n) (closed-same all all′ (at r claim) ms)
-  same-rest n all all′ ms zero past c r (r′ ∷ rs) claim m f ih = rw (f .0, f .1) (ih r′ rs refl)
-
   pub no-lookahead : (ms : List (List ℕ)) (r : R) (rs : List R) (past : List ℕ) (claim : ℕ) (common rest rest′ : List ℕ)
       → Chain g (r ∷ rs) (length past)
       → take (length common) (calls g final (past ++ (common ++ rest)) (at r claim) ms) ≡ take (length common) (calls g final (past ++ (common ++ rest′)) (at r claim) ms)
@@ -180,14 +177,14 @@ module _ {R : Type 0} (g : Game R) (final : Comparison) where
   no-lookahead [] r rs past claim common rest rest′ ch = refl
   no-lookahead (m ∷ ms) r rs past claim [] rest rest′ ch = refl
   no-lookahead (m ∷ ms) r rs past claim (c ∷ common) rest rest′ ch =
-      let past′ : List ℕ = past ++ (c ∷ []) in
-      rw (step-at past c (common ++ rest) r claim m (ch .0), step-at past c (common ++ rest′) r claim m (ch .0))
-      (ap (λ (l : List Answer). stepJudge g final (g .judge r past claim m) past c (at r claim) m .0 ∷ l)
-      (same-rest (length common) (past ++ c ∷ (common ++ rest)) (past ++ c ∷ (common ++ rest′)) ms (g .judge r past claim m) past c r rs claim m (ch .1)
-      (λ r′ rs′ e. subst₂ (λ (x y : List ℕ). take (length common) (calls g final x (at r′ (g .next m c)) ms) ≡ take (length common) (calls g final y (at r′ (g .next m c)) ms))
-      (append-assoc past (c ∷ []) (common ++ rest)) (append-assoc past (c ∷ []) (common ++ rest′))
-      (no-lookahead ms r′ rs′ past′ (g .next m c) common rest rest′
-      (subst (λ (l : List R). Chain g l (length past′)) e (subst (Chain g rs) (sym (length-append past (c ∷ []) ∙ add-one (length past))) (ch .2)))))))
+      let Same : Record R → Type 0 = λ s.
+      take (length common) (calls g final (past ++ c ∷ (common ++ rest)) s ms) ≡ take (length common) (calls g final (past ++ c ∷ (common ++ rest′)) s ms) in
+      rw (step-at past c r claim m (common ++ rest) (ch .0), step-at past c r claim m (common ++ rest′) (ch .0))
+      (ap (λ (l : List Answer). judged past c r claim m (g .judge r past claim m) .0 ∷ l)
+      (after-step past c r claim m Same rs (ch .1) (ap (take (length common)) (closed-same _ _ (at r claim) ms))
+      (λ r′ rs′ e. rw (← append-assoc past (c ∷ []) (common ++ rest), ← append-assoc past (c ∷ []) (common ++ rest′))
+      (no-lookahead ms r′ rs′ (past ++ (c ∷ [])) (g .next m c) common rest rest′ (rw (length-append, add-one) (rw e at (ch .2)))))
+      (g .judge r past claim m)))
 
   -- from opening, steps on the messages of a transcript of exact length end as the whole check does
   pub transcript-session : (r : R) (rs : List R) (past : List ℕ) (claim : ℕ) (ms cs : List ℕ) → Chain g (r ∷ rs) (length past)

@@ -1,7 +1,7 @@
 -- `combined` meets its contract: the part that is lent of a row is its first k words, and of these the sums are those of the definition.
 -- Assumes nothing.
 use Prim.Native.Nat.{ℕ, _≤_, _<_}
-use mathlib.Core.Path.{_≡_}
+use mathlib.Core.Path.{_≡_, _∙_}
 use mathlib.Core.List.{List, []}
 use lib.ListN.{length, getD, take}
 use native.Mathlib.Omega.{arith}
@@ -42,7 +42,7 @@ slice-aggregate-wirings-2 c = lent (c .before .before .before .before) 1 (omega 
 returns : tie.Need-returns
 returns c =
     let cut = c .before .before .before .before .before .before in
-    from-sums _ _ _ _ _ _ _ _ _ _ _ (first cut 0 (omega arith)) (first cut 1 (omega arith)) (c .before .wirings .ensures) (c .by-kinds .ensures)
+    c .by-kinds .ensures ∙ rw (c .before .wirings .ensures, first cut 0 (omega arith), first cut 1 (omega arith)) (from-sums _ _ _ _ _ _ _)
 
 pub combined-spec : {M : Type 1} → statement M
 combined-spec =

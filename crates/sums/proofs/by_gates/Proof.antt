@@ -95,14 +95,14 @@ loop-again c =
     let second = weighed .before .before in
     let first = second .before .before in
     let here = first .before .before .before in
-    step _ _ _ _ _ (here .loop .inv) (search needs)
+    rw (c .before .before .plus .ensures, c .before .plus2 .ensures, c .plus3 .ensures)
+    (step _ _ _ _ _ (here .loop .inv) (search needs)
     record {
       weighed = weighed .word .ensures;
       on-left = first .read-wire .ensures;
       on-right = second .read-wire2 .ensures;
       counts = counted .count-gate .ensures;
-    }
-    (c .before .before .plus .ensures) (c .before .plus2 .ensures) (c .plus3 .ensures)
+    })
 
 residue-requires : tie.Need-residue-requires Inv-loop μ-loop
 residue-requires c κs = search needs
@@ -124,8 +124,8 @@ returns c =
     let constant = c .before .before .before .before in
     let square = c .before .before .before in
     let ones = c .before .before in
-    end _ _ _ _ _ (constant .before .before .loop .inv) (search needs)
-    (constant .residue .ensures) (ones .residue3 .ensures) (square .residue2 .ensures) (c .before .sub .ensures) (c .sub2 .ensures)
+    rw (c .sub2 .ensures, c .before .sub .ensures, constant .residue .ensures, ones .residue3 .ensures, square .residue2 .ensures)
+    (end _ _ _ _ _ (constant .before .before .loop .inv) (search needs))
 
 pub by-gates-spec : {M : Type 1} → statement M
 by-gates-spec =
