@@ -70,5 +70,5 @@ module _ (c : List ℕ) (h : Sized c) where
         inside = omega arith;
         passed = after;
         wide = e;
-        left = opens ∙ legal-first _ _ (sym q);
+        left = opens ∙ legal-first _ _ q;
       }

@@ -37,6 +37,6 @@ module _ (c input : List ℕ) (y : ℕ) (cs : List ℕ) where
     pub open-coins : y < primeOf c → (cause : Cause) → numberOf cause ≡ needCoins c cs 0 → refuses (numberOf cause) ≡ openAnswer c input y cs
     open-coins l cause e = refused-by cause (needCoins c cs 0) (openedAt c y cs) e ∙ sym (only-coins l)
 
-    pub open-opens : y < primeOf c → 0 ≡ needCoins c cs 0 → opens (at (place 1 0) y) ≡ openAnswer c input y cs
+    pub open-opens : y < primeOf c → needCoins c cs 0 ≡ 0 → opens (at (place 1 0) y) ≡ openAnswer c input y cs
     unfolding firstClaim
-    open-opens l e = ap (λ (n : ℕ). openedBy n (openedAt c y cs)) e ∙ sym (only-coins l)
+    open-opens l e = sym (only-coins l ∙ ap (λ (n : ℕ). openedBy n (openedAt c y cs)) e)

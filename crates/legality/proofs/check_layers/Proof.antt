@@ -5,7 +5,7 @@ use mathlib.Core.Path.{_≡_, sym, ap, _∙_}
 use mathlib.Core.List.{List}
 use native.Mathlib.Omega.{arith}
 use lib.ListN.{length, take, drop}
-use Rattle.refusal.specs.Number.{causeOf}
+use Rattle.refusal.proofs.Order.{refusal-told, none-told}
 use Rattle.circuit.specs.Limits.{maxGates}
 use Rattle.circuit.specs.Circuit.{depth, exponentAt, widthOf}
 use Rattle.circuit.proofs.Sized.{exponent-width, exponent-next}
@@ -117,7 +117,7 @@ returns c =
     let t = done .before .before in
     let checked = told .checked .given in
     sym (layer-refused _ (start t .pre) _ _ _ (at t .loop .inv .1) (inside t) _ (next t) (checked .0 .0)
-    (sym (ap causeOf (checked .1)) ∙ rw (rest t) at (done .check-gates .ensures)))
+    (refusal-told (checked .1) (rw (rest t) at (done .check-gates .ensures))))
 
 enum-told : tie.Need-enum-told Inv-loop μ-loop
 enum-told c = search needs
@@ -137,7 +137,7 @@ loop-again c =
     let t = done .before .before in (
       at t .loop .inv .0,
       layer-legal _ (start t .pre) _ _ _ (at t .loop .inv .1) (inside t) _ (next t)
-          (sym (rw (rest t) at (done .check-gates .ensures)) ∙ ap causeOf (c .enum-told .given .1)),
+          (none-told (c .enum-told .given .1) (rw (rest t) at (done .check-gates .ensures))),
     )
 
 returns-2 : tie.Need-returns-2 Inv-loop μ-loop
