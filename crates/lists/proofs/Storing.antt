@@ -4,12 +4,12 @@
 use mathlib.Core.Path.{_≡_, refl, sym, ap, ap₂, _∙_}
 use mathlib.Core.List.{List}
 use Prim.Native.Nat.{ℕ, _+_, _≤_, _<_, min}
-use native.Mathlib.Numerals.{add-one}
 use native.Mathlib.Omega.{arith}
 use lib.ListN.{length, getD, set, take, length-take, length-set}
-use lib.Seq.{take-suc, length-take-le, take-all, getD-take}
+use lib.Seq.{length-take-le, take-all, getD-take}
 use Rattle.lists.specs.Buffer.{over}
 use Rattle.lists.proofs.Buffer.{over-set, getD-over-after}
+use Rattle.lists.proofs.Steps.{take-up}
 
 module _ {A : Type 0} where
   pub record Stored (ms before buffer : List A) (i : ℕ) : Type 0 where
@@ -37,7 +37,7 @@ module _ {A : Type 0} where
           size = length-set b i x ∙ s .size;
           stands = ap₂ (λ (t : List A) (y : A). set t i y) (s .stands) e
               ∙ over-set (take i ms) l i (getD ms i d) (length-take-le i ms (omega arith)) (omega arith)
-              ∙ ap (λ (t : List A). over t l) (sym (take-suc ms i d h) ∙ ap (λ (k : ℕ). take k ms) (sym (add-one i)));
+              ∙ ap (λ (t : List A). over t l) (sym (take-up ms i d h));
         }
 
     pub end : length ms ≤ i → b ≡ over ms l

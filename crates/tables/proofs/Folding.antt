@@ -3,11 +3,11 @@
 use mathlib.Core.Path.{_≡_, sym, ap, ap₂, _∙_}
 use mathlib.Core.List.{List, [], _∷_, _++_}
 use Prim.Native.Nat.{ℕ, _+_, _/_, _≤_, _<_}
-use native.Mathlib.Numerals.{add-one}
 use native.Mathlib.Omega.{arith}
 use lib.ListN.{length, take, drop, getD, set}
-use lib.Seq.{length-take-le, take-suc, take-all}
+use lib.Seq.{length-take-le, take-all}
 use Rattle.lists.specs.Buffer.{over}
+use Rattle.lists.proofs.Steps.{take-up}
 use Rattle.lists.proofs.Storing.{Stored, kept, next, start as stored-start, end as stored-end}
 use Rattle.algebra.specs.Numbers.{Numbers}
 use Rattle.multilinear.specs.Extension.{between, fold}
@@ -66,7 +66,7 @@ module _ {C : Type 0} (N : Numbers C) (point vs : List C) where
         holds = ap (λ (m : ℕ). take m (part ++ drop n l)) (sym halved) ∙ front-back l part (fold N r (take n l)) n e
             ∙ ap₂ (fold N) er (h .holds) ∙ sym (folded-one N (getD point i d) (folded N (take i point) vs))
             ∙ sym (folded-append N (take i point) (getD point i d ∷ []) vs)
-            ∙ ap (λ (xs : List C). folded N xs vs) (sym (take-suc point i d more) ∙ ap (λ (m : ℕ). take m point) (sym (add-one i)));
+            ∙ ap (λ (xs : List C). folded N xs vs) (sym (take-up point i d more));
       }
 
   pub all-fixed : (l : List C) (n i : ℕ) → Fixed l n i → length point ≤ i → take n l ≡ folded N point vs

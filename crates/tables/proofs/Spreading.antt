@@ -7,8 +7,9 @@ use Prim.Native.Nat.{ℕ, suc, _+_, _-_, _*_, _/_, _^_, _≤_, _<_}
 use native.Mathlib.Nat.{zero-add, suc-add, sub-self, two-pow-succ}
 use native.Mathlib.Omega.{arith}
 use lib.ListN.{length, take, drop, getD, set, length-map, length-drop, length-append, take-append-drop, drop-of-length-le, List·getD-append}
-use lib.Seq.{length-take-le, getD-take, set-append-left, drop-cons, drop-drop, take-take}
+use lib.Seq.{length-take-le, getD-take, set-append-left, drop-drop, take-take}
 use Rattle.lists.specs.Buffer.{over}
+use Rattle.lists.proofs.Steps.{drop-down}
 use Rattle.lists.proofs.Storing.{Stored, kept, next, start as stored-start, end as stored-end}
 use Rattle.lists.proofs.Map.{getD-map-lt}
 use Rattle.algebra.specs.Numbers.{Numbers}
@@ -140,7 +141,6 @@ module _ {C : Type 0} (N : Numbers C) (point : List C) where
       let fits = room l n left h more in
       let size = h .size in
       let reached = h .reached in
-      let again : suc (left - 1) ≡ left = omega arith in
       let longer : length point - (left - 1) ≡ suc (length point - left) = omega arith in
       let twice : 2 * n ≡ 2 ^ (length point - (left - 1)) =
       ap (λ (m : ℕ). 2 * m) (h .count) ∙ sym (ap (λ (k : ℕ). 2 ^ k) longer ∙ two-pow-succ (length point - left) ∙ omega arith) in
@@ -149,8 +149,7 @@ module _ {C : Type 0} (N : Numbers C) (point : List C) where
       ap (λ (m : ℕ). take m (take (2 * n) l)) lent ∙ take-take n (2 * n) l (omega arith) ∙ h .holds in
       let ws : List C = spread N z (take (length (take (2 * n) l) / 2) (take (2 * n) l)) in
       let made : ws ≡ weights N (drop (left - 1) point) =
-      ap₂ (spread N) ez before ∙ sym (ap (weights N) (drop-cons point (left - 1) d (omega arith)
-      ∙ ap (λ (k : ℕ). getD point (left - 1) d ∷ drop k point) again) ∙ weights-more N (getD point (left - 1) d) (drop left point)) in
+      ap₂ (spread N) ez before ∙ sym (ap (weights N) (drop-down point left d more reached) ∙ weights-more N (getD point (left - 1) d) (drop left point)) in
       let all : length ws ≡ 2 * n =
       ap length made ∙ length-weights N (drop (left - 1) point) ∙ ap (λ (k : ℕ). 2 ^ k) (length-drop (left - 1) point) ∙ sym twice in
       record {
