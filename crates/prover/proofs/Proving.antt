@@ -1,6 +1,6 @@
 -- The whole proof's answer and buffer, refusal by refusal.
 -- Assumes nothing.
-use Prim.Native.Nat.{ℕ, suc, _≤_, _<_}
+use Prim.Native.Nat.{ℕ, _≤_, _<_}
 use mathlib.Core.Path.{_≡_, refl, sym, ap, ap₂, _∙_}
 use mathlib.Core.Bool.{Bool}
 use mathlib.Core.List.{List}
@@ -12,7 +12,7 @@ use Rattle.refusal.specs.Number.{numberOf}
 use Rattle.refusal.specs.Order.{need}
 use Rattle.refusal.specs.declared.Cause.{Cause}
 use Rattle.refusal.specs.declared.Cause.the-variants.{BufferShort}
-use Rattle.refusal.proofs.Order.{numbered-suc, refused-first, left-by}
+use Rattle.refusal.proofs.Order.{refused-first, refused-by, left-by}
 use Rattle.circuit.specs.Circuit.{messageWords}
 use Rattle.circuit.specs.Legal.{listsCause}
 use Rattle.circuit.specs.Values.{value}
@@ -26,12 +26,10 @@ use Rattle.prover.specs.declared.Proved.the-variants.{Written, Refused}
 module _ (c input cs before : List ℕ) where
   by-cause : (cause : Cause) → proveCause c input cs before ≡ numberOf cause → Proves c input cs before (Refused cause) before
   unfolding proveAnswer proveBuffer
-  by-cause cause e =
-      let s : numberOf cause ≡ suc (numbered-suc cause .0) = numbered-suc cause .1 in
-      record {
-        answer = ap refused s ∙ sym (ap (λ (k : ℕ). proofOf k (value c input) (messageWords c)) (e ∙ s));
-        buffer = sym (left-by cause (proveCause c input cs before) (over (transcript c (honest c input) cs) before) before e);
-      }
+  by-cause cause e = record {
+    answer = refused-by (λ k. proofOf k (value c input) (messageWords c)) refused (λ n. refl) cause (proveCause c input cs before) e;
+    buffer = sym (left-by cause (proveCause c input cs before) (over (transcript c (honest c input) cs) before) before e);
+  }
 
   pub whole-lists : (cause : Cause) → numberOf cause ≡ listsCause c input → Proves c input cs before (Refused cause) before
   unfolding proveCause

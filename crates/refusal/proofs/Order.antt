@@ -37,7 +37,7 @@ numbered RecordUnfit rest = refl
 numbered BytesUnfit rest = refl
 
 -- a cause's number as a successor, for what goes by cases on it
-pub numbered-suc : (cause : Cause) → (n : ℕ) × (numberOf cause ≡ suc n)
+numbered-suc : (cause : Cause) → (n : ℕ) × (numberOf cause ≡ suc n)
 numbered-suc cause = go (numberOf cause) refl
   where
     go : (n : ℕ) → numberOf cause ≡ n → (m : ℕ) × (numberOf cause ≡ suc m)
@@ -77,8 +77,13 @@ pub need-more : (b : Bool) (n more rest : ℕ) → first (need b (suc n) more) r
 need-more true n more rest = refl
 need-more false n more rest = refl
 
--- where a cause is found, nothing is written
+-- where a cause is found, an answer that goes by the number is the refusal with it, and nothing is written
+pub refused-by : {A : Type 0} (answer refusal : ℕ → A) → ((n : ℕ) → refusal (suc n) ≡ answer (suc n)) → (cause : Cause) (n : ℕ) → n ≡ numberOf cause
+    → refusal (numberOf cause) ≡ answer n
+refused-by answer refusal same cause n e =
+    let s = numbered-suc cause in
+    ap refusal (s .1) ∙ same (s .0) ∙ sym (ap answer (e ∙ s .1))
+
 pub left-by : {A : Type 0} (cause : Cause) (n : ℕ) (written before : A) → n ≡ numberOf cause → cond (eqb n 0) written before ≡ before
 left-by cause n written before e =
-    let s = numbered-suc cause in
-    ap (λ (k : ℕ). cond (eqb k 0) written before) (e ∙ s .1) ∙ ap (λ (b : Bool). cond b written before) (eqb·suc-zero (s .0))
+    sym (refused-by (λ k. cond (eqb k 0) written before) (λ k. before) (λ k. sym (ap (λ (b : Bool). cond b written before) (eqb·suc-zero k))) cause n e)

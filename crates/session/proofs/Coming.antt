@@ -12,7 +12,7 @@ use Rattle.refusal.specs.Number.{numberOf}
 use Rattle.refusal.specs.Order.{need, first}
 use Rattle.refusal.specs.declared.Cause.{Cause}
 use Rattle.refusal.specs.declared.Cause.the-variants.{RecordUnfit}
-use Rattle.refusal.proofs.Order.{numbered-suc, refused-first}
+use Rattle.refusal.proofs.Order.{refused-by, refused-first}
 use Rattle.circuit.specs.Limits.{maxCoins}
 use Rattle.circuit.specs.Circuit.{depth, outputExponent, exponents, exponentAt, coinCount}
 use Rattle.circuit.specs.Legal.{listsCause}
@@ -112,9 +112,8 @@ module _ (c input cs : List ℕ) (s : Session) (h : Fitting c input cs s) (n : �
 
     step-ends : (k : Cause) → numberOf k ≡ cause → step (descent c) (inputAgrees c input) cs (recordOf s) m ≡ (refused (numberOf k), ended (recordOf s))
     step-ends k e =
-        let t = numbered-suc k in
-        step-is ∙ ap (λ (j : ℕ). stepJudge (descent c) (inputAgrees c input) j (take n cs) coin (recordOf s) m) (sym e ∙ t .1)
-        ∙ ap (λ (j : ℕ). (refused j, ended (recordOf s))) (sym (t .1))
+        step-is ∙ sym (refused-by (λ j. stepJudge (descent c) (inputAgrees c input) j (take n cs) coin (recordOf s) m)
+        (λ j. (refused j, ended (recordOf s))) (λ j. refl) k cause (sym e))
 
     pub refused-open : (k : Cause) → numberOf k ≡ cause → (r : Stepped) → verdictOf (r .verdict) ≡ refused (numberOf k)
         → recordOf (r .session) ≡ ended (recordOf s) → StepsOpen c input cs s m r
@@ -137,12 +136,11 @@ module _ (c input cs : List ℕ) (s : Session) (m : List ℕ) where
       → recordOf (r .session) ≡ recordOf s → Steps c input cs s m r
   unfolding stepAnswer
   left-by k e r answer after =
-      let t = numbered-suc k in
-      let same : stepAfter (stepCause c input cs (recordOf s)) c input cs (recordOf s) m ≡ (refused (numberOf k), recordOf s) =
-      ap (λ (j : ℕ). stepAfter j c input cs (recordOf s) m) (e ∙ t .1) ∙ ap (λ (j : ℕ). (refused j, recordOf s)) (sym (t .1)) in
+      let same : (refused (numberOf k), recordOf s) ≡ stepAfter (stepCause c input cs (recordOf s)) c input cs (recordOf s) m =
+      refused-by (λ j. stepAfter j c input cs (recordOf s) m) (λ j. (refused j, recordOf s)) (λ j. refl) k (stepCause c input cs (recordOf s)) e in
       record {
-        answer = answer ∙ sym (ap (λ (x : Answer × Record Place). x .0) same);
-        after = after ∙ sym (ap (λ (x : Answer × Record Place). x .1) same);
+        answer = answer ∙ ap (λ (x : Answer × Record Place). x .0) same;
+        after = after ∙ ap (λ (x : Answer × Record Place). x .1) same;
       }
 
   module _ (k : Cause) (r : Stepped) (answer : verdictOf (r .verdict) ≡ refused (numberOf k)) (after : recordOf (r .session) ≡ recordOf s) where

@@ -1,6 +1,6 @@
 -- A walk in a loop: before each round what is left of it, from the coins and words left, is the whole walk.
 -- Assumes nothing.
-use Prim.Native.Nat.{ℕ, suc, _+_, _≤_, _<_}
+use Prim.Native.Nat.{ℕ, _+_, _≤_, _<_}
 use mathlib.Core.Path.{_≡_, refl, sym, ap, ap₂, _∙_}
 use mathlib.Core.List.{List, [], _∷_, map}
 use native.Mathlib.Omega.{arith}
@@ -9,7 +9,10 @@ use lib.Seq.{take-all, drop-drop}
 use Rattle.lists.specs.Count.{sum}
 use Rattle.lists.proofs.Count.{sum-there, sum-passed}
 use Rattle.lists.proofs.Steps.{take-up, drop-up}
+use Rattle.refusal.specs.Number.{numberOf}
 use Rattle.refusal.specs.Order.{first}
+use Rattle.refusal.specs.declared.Cause.{Cause}
+use Rattle.refusal.proofs.Order.{refused-first, legal-first}
 use Rattle.walk.specs.Game.{Game, Comparison, finalCause, walk}
 
 -- so many coins come before any message
@@ -51,11 +54,11 @@ module _ {R : Type 0} (g : Game R) (final : Comparison) (rounds : List R) (first
     left-next e = record {
       coins = omega (arith, h .coins);
       words = sum-passed (g .len) r rest at (length ms) (h .words);
-      same = sym (one-round ∙ ap (λ (i : ℕ). first i later) e) ∙ h .same;
+      same = sym (one-round ∙ legal-first (g .judge r (take n cs) claim message) later e) ∙ h .same;
     }
 
-    pub left-refused : (cause : ℕ) → g .judge r (take n cs) claim message ≡ suc cause → suc cause ≡ whole
-    left-refused cause e = sym (one-round ∙ ap (λ (i : ℕ). first i later) e) ∙ h .same
+    pub left-refused : (cause : Cause) → numberOf cause ≡ g .judge r (take n cs) claim message → numberOf cause ≡ whole
+    left-refused cause e = sym (one-round ∙ refused-first cause (g .judge r (take n cs) claim message) later e) ∙ h .same
 
   pub left-none : (n at claim : ℕ) → Left [] n at claim → finalCause (final cs claim) ≡ whole
   unfolding walk
