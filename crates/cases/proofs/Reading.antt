@@ -5,13 +5,13 @@ use mathlib.Core.List.{List, [], _++_}
 use Prim.Native.Nat.{ℕ, _+_, _-_, _*_, _%_, _≤_, _<_, min}
 use mathlib.Core.Logic.{_⊎_, inl, inr}
 use native.Mathlib.Nat.{eq-zero-or-pos}
-use native.Mathlib.Numerals.{add-one}
 use native.Mathlib.Omega.{arith}
 use lib.ListN.{length, getD, take, drop, length-append, length-drop}
-use lib.Seq.{drop-cons, length-take-le}
+use lib.Seq.{length-take-le}
 use Rattle.lists.proofs.Parts.{take-most}
 use Rattle.io.specs.Counts.{Counts}
 use Rattle.cases.specs.Parts.{between}
+use Rattle.lists.proofs.Steps.{drop-up}
 use Rattle.cases.specs.Checksum.{modulus, checksumFrom}
 
 -- PARTS
@@ -37,7 +37,7 @@ counts-front n xs ys h =
 pub checksum-next : (h : ℕ) (l : List ℕ) (i : ℕ) → i < length l
     → checksumFrom h (drop i l) ≡ checksumFrom ((h * 31 + getD l i 0) % modulus) (drop (i + 1) l)
 unfolding checksumFrom
-checksum-next h l i less = rw (add-one, drop-cons l i 0)
+checksum-next h l i less = rw (drop-up l i 0)
 
 pub checksum-end : (h : ℕ) → checksumFrom h [] ≡ h
 unfolding checksumFrom

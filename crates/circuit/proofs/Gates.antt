@@ -1,6 +1,6 @@
 -- Where the gates of a layer stand: behind the header and the exponents, three words a gate, those of the layers before it first.
 -- Assumes nothing.
-use Prim.Native.Nat.{ℕ, zero, suc, _+_, _*_, _^_, _≤_, _<_}
+use Prim.Native.Nat.{ℕ, zero, suc, _+_, _-_, _*_, _^_, _≤_, _<_}
 use mathlib.Core.Path.{_≡_, refl, sym, ap, ap₂, _∙_}
 use mathlib.Core.List.{List, [], _∷_}
 use native.Mathlib.Nat.{not-suc-le-zero, le-of-suc-le-suc, le-refl}
@@ -8,6 +8,7 @@ use native.Mathlib.Numerals.{add-one}
 use native.Mathlib.Omega.{arith}
 use lib.ListN.{length, length-drop, take, drop, getD, drop-of-length-le}
 use lib.Seq.{drop-cons, drop-drop, length-take-le, take-all}
+use Rattle.lists.proofs.Buffer.{rest-lent}
 use Rattle.refusal.specs.Order.{first}
 use Rattle.circuit.specs.Limits.{maxGates}
 use Rattle.circuit.specs.Gate.{Gate}
@@ -37,6 +38,10 @@ count-none c = refl
 -- all words of the gates from gate number i on
 abbrev pub gatesFrom : List ℕ → ℕ → List ℕ
 gatesFrom c i = drop (3 * i) (drop (gatesStart c) c)
+
+-- the same, lent from the words of all gates
+pub gates-lent : (c gates : List ℕ) (i : ℕ) → gates ≡ drop (gatesStart c) c → take (length gates - 3 * i) (drop (3 * i) gates) ≡ gatesFrom c i
+gates-lent c gates i e = rest-lent gates (3 * i) (length gates) refl ∙ ap (drop (3 * i)) e
 
 layer-in : (k : ℕ) (ks ws : List ℕ) (l : ℕ) → l < length ks
     → getD (layersOf k ks ws) l [] ≡ gatesOf (2 ^ getD (k ∷ ks) l 0) (drop (3 * gateCount k (take l ks)) ws)
@@ -88,8 +93,11 @@ module _ (c : List ℕ) (h : Sized c) where
 
   module _ (l from count : ℕ) (n : l < depth c) (ef : from ≡ gatesBefore c l) (ec : count ≡ 2 ^ exponentAt c l) where
     -- all their words are there
-    pub rest-room : 3 * from + 3 * count ≤ length (drop (gatesStart c) c)
+    rest-room : 3 * from + 3 * count ≤ length (drop (gatesStart c) c)
     rest-room = rw length-drop (omega (arith, gates-room l n, ef, ec))
+
+    pub rest-start : (gates : List ℕ) → gates ≡ drop (gatesStart c) c → 3 * from ≤ length gates
+    rest-start gates e = omega (arith, rest-room, ap length e)
 
     pub rest-words : 3 * count ≤ length (gatesFrom c from)
     rest-words = rw length-drop (omega (arith, rest-room))

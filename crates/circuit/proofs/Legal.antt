@@ -5,13 +5,13 @@ use mathlib.Core.Path.{_≡_, refl, sym, ap, _∙_}
 use mathlib.Core.Bool.{Bool, true, false, not, _&&_, _||_, false≢true}
 use mathlib.Core.List.{List, [], _∷_}
 use native.Mathlib.Nat.{add-zero, sub-zero, suc-sub-suc}
-use native.Mathlib.Numerals.{add-one}
 use native.Mathlib.Omega.{arith}
 use lib.Dec.{ltb, leb, eqb}
 use lib.ListN.{length, getD, take, drop, drop-of-length-le}
-use lib.Seq.{drop-cons, drop-drop, getD-drop, getD-take, take-nil}
+use lib.Seq.{drop-drop, getD-drop, getD-take, take-nil}
 use borrow.Author.Tests.{lt-ltb, le-ltb, lt-leb, le-leb, eq-eqb, ne-eqb, ltb-true}
 use Rattle.refusal.specs.Order.{need, first}
+use Rattle.lists.proofs.Steps.{drop-up}
 use Rattle.refusal.proofs.Order.{need-none}
 use Rattle.circuit.specs.Gate.{Gate, gate, maxKind}
 use Rattle.circuit.specs.Circuit.{gatesOf}
@@ -20,7 +20,7 @@ use Rattle.circuit.specs.Legal.{allBelow, wiresGood, gateCause, gatesCau
 -- WORDS BELOW A BOUND, from place i on
 below-at : (p : ℕ) (ws : List ℕ) (i : ℕ) → i < length ws → allBelow p (drop i ws) ≡ (ltb (getD ws i 0) p && allBelow p (drop (i + 1) ws))
 unfolding allBelow
-below-at p ws i h = rw (add-one, drop-cons ws i 0 h)
+below-at p ws i h = rw (drop-up ws i 0 h)
 
 pub below-fails : (p : ℕ) (ws : List ℕ) (i : ℕ) → i < length ws → p ≤ getD ws i 0 → allBelow p (drop i ws) ≡ false
 below-fails p ws i h l = below-at p ws i h ∙ ap (λ (b : Bool). b && allBelow p (drop (i + 1) ws)) (le-ltb (getD ws i 0) p l)

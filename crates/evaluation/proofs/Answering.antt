@@ -1,7 +1,7 @@
 -- Evaluate's answer and buffer, case by case.
 -- Assumes nothing.
-use Prim.Native.Nat.{ℕ, suc, _≤_, _<_}
-use mathlib.Core.Path.{_≡_, sym, ap, _∙_}
+use Prim.Native.Nat.{ℕ, _≤_, _<_}
+use mathlib.Core.Path.{_≡_, refl, sym, ap, _∙_}
 use mathlib.Core.Bool.{true}
 use mathlib.Core.List.{List, flatten}
 use native.Mathlib.Omega.{arith}
@@ -14,7 +14,7 @@ use Rattle.refusal.specs.Number.{numberOf}
 use Rattle.refusal.specs.Order.{need, first}
 use Rattle.refusal.specs.declared.Cause.{Cause}
 use Rattle.refusal.specs.declared.Cause.the-variants.{BufferShort}
-use Rattle.refusal.proofs.Order.{refused-first, numbered-suc, left-by}
+use Rattle.refusal.proofs.Order.{refused-first, refused-by, left-by}
 use Rattle.circuit.specs.Circuit.{valueCount}
 use Rattle.circuit.specs.Legal.{listsCause}
 use Rattle.circuit.specs.Values.{layers, value}
@@ -28,13 +28,10 @@ module _ (c input before : List ℕ) where
   -- a cause, whatever it is, leaves the buffer
   by-cause : (cause : Cause) → evaluateCause c input before ≡ numberOf cause → Evaluates c input before (Refused cause) before
   unfolding evaluateAnswer evaluateBuffer
-  by-cause cause e =
-      let n : ℕ = numbered-suc cause .0 in
-      let s : numberOf cause ≡ suc n = numbered-suc cause .1 in
-      record {
-        answer = ap refused s ∙ sym (ap (λ (k : ℕ). evaluated k (value c input)) (e ∙ s));
-        buffer = sym (left-by cause (evaluateCause c input before) (over (flatten (layers c input)) before) before e);
-      }
+  by-cause cause e = record {
+    answer = refused-by (λ k. evaluated k (value c input)) refused (λ n. refl) cause (evaluateCause c input before) e;
+    buffer = sym (left-by cause (evaluateCause c input before) (over (flatten (layers c input)) before) before e);
+  }
 
   pub left-lists : (cause : Cause) → numberOf cause ≡ listsCause c input → Evaluates c input before (Refused cause) before
   unfolding evaluateCause

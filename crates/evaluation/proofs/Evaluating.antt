@@ -20,7 +20,7 @@ use Rattle.circuit.specs.Circuit.{outputExponent, primeOf, depth, exponentAt, g
 use Rattle.circuit.specs.Legal.{listsCause}
 use Rattle.circuit.specs.Sized.{LegalCircuit}
 use Rattle.circuit.specs.Values.{layers, valuesAt, value}
-use Rattle.circuit.proofs.Gates.{before-next, count-none, gatesFrom, rest-room, rest-words, rest-gates}
+use Rattle.circuit.proofs.Gates.{before-next, count-none, gatesFrom, rest-start, rest-words, rest-gates}
 use Rattle.circuit.proofs.Loading.{legal-lists}
 use Rattle.circuit.proofs.Layers.{layer-by-layer, last-layer, legal-wires}
 use Rattle.circuit.proofs.Values.{values-split, layer-part, layer-room, all-size}
@@ -119,8 +119,8 @@ module _ (c input : List ℕ) (e : listsCause c input ≡ 0) where
     turn-sizes = (omega (arith, next), omega (arith, room, in-limits c legal .values))
 
     -- its gates, and what their wires name
-    pub turn-room : 3 * at ≤ length (drop (gatesStart c) c)
-    turn-room = omega (arith, rest-room c (legal .sized) j at count inside here wide)
+    pub turn-room : (gates : List ℕ) → gates ≡ drop (gatesStart c) c → 3 * at ≤ length gates
+    turn-room = rest-start c (legal .sized) j at count inside here wide
 
     gates-are : gatesOf count (gatesFrom c at) ≡ gatesAt c j
     gates-are = rest-gates c (legal .sized) j at count inside here wide

@@ -5,11 +5,11 @@ use mathlib.Core.Path.{_≡_, refl, sym, ap, ap₂, _∙_}
 use mathlib.Core.List.{List, [], _∷_, map}
 use native.Mathlib.Nat.{le-of-suc-le-suc}
 use native.Mathlib.Omega.{arith}
-use lib.ListN.{length, getD, set, take, drop, length-map}
-use lib.Seq.{getD-drop, length-take-le}
+use lib.ListN.{length, getD, set, drop, length-map}
+use lib.Seq.{getD-drop}
 use Rattle.lists.specs.Each.{All}
 use Rattle.lists.specs.Buffer.{over}
-use Rattle.lists.proofs.Buffer.{over-next, getD-over-after}
+use Rattle.lists.proofs.Storing.{Stored, start, kept, next, end}
 use Rattle.lists.proofs.Each.{all-at}
 use Rattle.lists.proofs.Map.{getD-map-lt}
 use Rattle.algebra.specs.Numbers.{Numbers, words}
@@ -70,21 +70,27 @@ operate-other p (suc zero) x y a b = absurd (a refl)
 operate-other p (suc (suc zero)) x y a b = absurd (b refl)
 operate-other p (suc (suc (suc kind))) x y a b = refl
 
--- one value more: it is read behind the places that are filled, which still hold what they held
-pub fill-step : (p count : ℕ) (gates before values : List ℕ) (i r : ℕ) → i < count → count ≤ length before
-    → values ≡ over (take i (layerValues (words p) count gates before)) before
-    → r ≡ operate (words p) (getD gates (3 * i) 0) (getD values (count + getD gates (3 * i + 1) 0) 0) (getD values (count + getD gates (3 * i + 2) 0) 0)
-    → set values i r ≡ over (take (i + 1) (layerValues (words p) count gates before)) before
-fill-step p count gates before values i r h fits e v =
-    let layer : List ℕ = layerValues (words p) count gates before in
-    let size : length layer ≡ count = length-layer (words p) count gates before in
-    let kept : (j : ℕ) → getD values (count + j) 0 ≡ getD before (count + j) 0 =
-    λ j. ap (λ (l : List ℕ). getD l (count + j) 0) e
-    ∙ getD-over-after (take i layer) before (count + j) 0 (omega (arith, length-take-le i layer (omega arith))) in
-    let same : r ≡ getD layer i 0 =
-    v ∙ ap₂ (operate (words p) (getD gates (3 * i) 0)) (kept (getD gates (3 * i + 1) 0)) (kept (getD gates (3 * i + 2) 0))
-    ∙ sym (layer-at p count gates before i h) in
-    ap₂ (λ (l : List ℕ) (x : ℕ). set l i x) e same ∙ over-next layer before i 0 (omega arith) (omega arith)
+-- i values of the layer stand, before those of the next
+module _ (p count : ℕ) (gates before : List ℕ) where
+  abbrev pub LayerStored : List ℕ → ℕ → Type 0
+  LayerStored values i = Stored (layerValues (words p) count gates before) before values i
+
+  pub layer-start : count ≤ length before → LayerStored before 0
+  layer-start room = start (layerValues (words p) count gates before) before (omega (arith, length-layer (words p) count gates before))
+
+  module _ (values : List ℕ) (i : ℕ) (h : LayerStored values i) where
+    -- one value more: it is read behind the places that are filled, which still hold what they held
+    pub layer-step : (r : ℕ) → i < count
+        → r ≡ operate (words p) (getD gates (3 * i) 0) (getD values (count + getD gates (3 * i + 1) 0) 0) (getD values (count + getD gates (3 * i + 2) 0) 0)
+        → LayerStored (set values i r) (i + 1)
+    layer-step r more e =
+        let behind : (j : ℕ) → getD values (count + j) 0 ≡ getD before (count + j) 0 = λ j. kept h (count + j) 0 (omega arith) in
+        next h 0 r (omega (arith, length-layer (words p) count gates before))
+        (e ∙ ap₂ (operate (words p) (getD gates (3 * i) 0)) (behind (getD gates (3 * i + 1) 0)) (behind (getD gates (3 * i + 2) 0))
+        ∙ sym (layer-at p count gates before i more))
+
+    pub layer-end : count ≤ i → values ≡ over (layerValues (words p) count gates before) before
+    layer-end all = end h (omega (arith, length-layer (words p) count gates before))
 
 -- gates whose wires are below `next` see no more of the values
 pub values-agree : (p next : ℕ) (gs : List Gate) (v w : List ℕ) → All (λ g. (g .left < next) × (g .right < next)) gs

@@ -3,15 +3,15 @@
 -- Assumes nothing.
 use mathlib.Core.Path.{_≡_, refl, sym, ap, ap₂, _∙_}
 use mathlib.Core.Bool.{Bool}
-use mathlib.Core.List.{List, _∷_}
+use mathlib.Core.List.{List}
 use Prim.Native.Nat.{ℕ, suc, _-_, _/_, _%_, _^_, _≤_, _<_}
 use native.Mathlib.Nat.{sub-self, sub-zero, div-one}
 use native.Mathlib.Numerals.{add-one}
 use native.Mathlib.Omega.{arith}
 use borrow.Author.Tests.{eq-eqb, ne-eqb}
 use lib.ListN.{length, drop, getD}
-use lib.Seq.{drop-cons}
 use lib.Pow.{shr-shr}
+use Rattle.lists.proofs.Steps.{drop-down}
 use Rattle.algebra.specs.Numbers.{Numbers}
 use Rattle.multilinear.specs.Extension.{odd, bits, factor, weightOfBits, weight}
 
@@ -46,13 +46,10 @@ module _ {C : Type 0} (N : Numbers C) where
       let k : ℕ = length point - left in
       let within = h .within in
       let longer : length point - (left - 1) ≡ suc k = omega arith in
-      let again : suc (left - 1) ≡ left = omega arith in
-      let cons : drop (left - 1) point ≡ getD point (left - 1) d ∷ drop left point =
-      drop-cons point (left - 1) d (omega arith) ∙ ap (λ (n : ℕ). getD point (left - 1) d ∷ drop n point) again in
       record {
         within = omega arith;
         bits-left = rw longer (ap (λ (n : ℕ). n / 2) (h .bits-left) ∙ shr-shr index k 1 ∙ ap (λ (n : ℕ). index / 2 ^ n) (add-one k));
-        passed = rw (longer, cons) (e
+        passed = rw (longer, drop-down point left d more within) (e
             ∙ ap₂ (N .mul) (f ∙ ap (λ (r : ℕ). factor N (odd r) (getD point (left - 1) d)) (h .bits-left)) (h .passed));
       }
 

@@ -16,7 +16,7 @@ use Rattle.circuit.specs.Circuit.{depth, exponents, exponentAt, outputExponent,
 use Rattle.circuit.specs.Legal.{gatesCause, layersCause}
 use Rattle.circuit.specs.Sized.{Sized}
 use Rattle.circuit.proofs.Sized.{one-output, width-of}
-use Rattle.circuit.proofs.Gates.{count-none, before-next, before-few, gatesFrom, rest-room, rest-words, rest-gates, layers-at, layers-end}
+use Rattle.circuit.proofs.Gates.{count-none, before-next, before-few, gatesFrom, rest-start, rest-words, rest-gates, layers-at, layers-end}
 
 -- before a layer, or behind the last: the gates passed, its own, and what is left decides
 pub record BeforeLayer (c : List ℕ) (layer from count : ℕ) : Type 0 where
@@ -39,8 +39,8 @@ module _ (c : List ℕ) (h : Sized c) where
 
   -- a layer of the circuit
   module _ (layer from count : ℕ) (b : BeforeLayer c layer from count) (more : layer < depth c) where
-    pub layer-room : 3 * from + 3 * count ≤ length (drop (gatesStart c) c)
-    layer-room = rest-room c h layer from count more (b .passed) (b .wide)
+    pub layer-room : (gates : List ℕ) → gates ≡ drop (gatesStart c) c → 3 * from ≤ length gates
+    layer-room = rest-start c h layer from count more (b .passed) (b .wide)
 
     pub layer-there : 3 * count ≤ length (gatesFrom c from)
     layer-there = rest-words c h layer from count more (b .passed) (b .wide)
@@ -70,5 +70,5 @@ module _ (c : List ℕ) (h : Sized c) where
         inside = omega arith;
         passed = after;
         wide = e;
-        left = opens ∙ legal-first _ _ (sym q);
+        left = opens ∙ legal-first _ _ q;
       }

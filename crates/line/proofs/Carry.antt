@@ -6,10 +6,10 @@ use mathlib.Core.List.{List, [], _∷_}
 use Prim.Native.Nat.{ℕ, suc, _+_, _≤_, _<_}
 use native.Mathlib.Numerals.{add-one}
 use native.Mathlib.Omega.{arith}
-use lib.ListN.{length, take, drop, getD, set, length-set, drop-of-length-le}
+use lib.ListN.{length, take, drop, getD, set, drop-of-length-le}
 use lib.Seq.{length-take-le, drop-cons, getD-take}
 use Rattle.lists.specs.Buffer.{over}
-use Rattle.lists.proofs.Buffer.{over-next, over-all, getD-over-after}
+use Rattle.lists.proofs.Storing.{Stored, kept, next, start as stored-start, end as stored-end}
 use Rattle.algebra.specs.Numbers.{Numbers}
 use Rattle.sumcheck.specs.Line.{along}
 use Rattle.sumcheck.proofs.Line.{length-along}
@@ -31,12 +31,17 @@ module _ {C : Type 0} (N : Numbers C) (z x d : C) (row₀ high : List C) where
   pub record Carried (row : List C) (carry : C) (i : ℕ) : Type 0 where
     pub within : i ≤ m
     pub room : m < length row₀
-    pub size : length row ≡ length row₀
-    pub front : row ≡ over (take i whole) row₀
+    pub front : Stored whole row₀ row i
     pub left : drop i whole ≡ along N x d carry (drop i low) (drop i high)
 
+  low-long : m < length row₀ → length low ≡ m
+  low-long room = length-take-le m row₀ (omega arith)
+
+  long : m < length row₀ → length whole ≡ suc m
+  long room = length-along N m x d 𝟘 low high (low-long room) refl
+
   pub start : m < length row₀ → Carried row₀ 𝟘 0
-  start h = record { within = omega arith; room = h; size = refl; front = refl; left = refl }
+  start h = record { within = omega arith; room = h; front = stored-start whole row₀ (omega (arith, long h)); left = refl }
 
   -- an element and the rest after it, from a list's part
   first-left : (l rest : List C) (i : ℕ) (c : C) → i < length l → drop i l ≡ c ∷ rest → (getD l i z ≡ c) × (drop (suc i) l ≡ rest)
@@ -45,38 +50,27 @@ module _ {C : Type 0} (N : Numbers C) (z x d : C) (row₀ high : List C) where
       (ap (λ (t : List C). getD t 0 z) parts, ap (drop 1) parts)
 
   module _ (row : List C) (carry : C) (i : ℕ) (h : Carried row carry i) where
-    low-long : length low ≡ m
-    low-long = let room : m < length row₀ = h .room in length-take-le m row₀ (omega arith)
-
-    long : length whole ≡ suc m
-    long = length-along N m x d 𝟘 low high low-long refl
-
     -- a word that is not yet written
     word-left : i < m → getD row i z ≡ getD low i z
-    word-left more =
-        ap (λ (r : List C). getD r i z) (h .front)
-        ∙ getD-over-after (take i whole) row₀ i z (omega (arith, length-take-le i whole (omega (arith, long))))
-        ∙ sym (getD-take m row₀ i z more)
+    word-left more = kept (h .front) i z (omega arith) ∙ sym (getD-take m row₀ i z more)
 
     pub step : (e c : C) → i < m → e ≡ getD high i z ⊖ getD row i z → c ≡ getD row i z ⊕ x ⊗ e ⊕ d ⊗ carry
         → Carried (set row i c) e (i + 1)
     unfolding along
     step e c more difference coefficient =
-        let room : m < length row₀ = h .room in
+        let size = long (h .room) in
+        let low-size = low-long (h .room) in
         let a : C = getD low i z in
         let b : C = getD high i z in
         let rest : List C = along N x d (b ⊖ a) (drop (suc i) low) (drop (suc i) high) in
         let same : e ≡ b ⊖ a = difference ∙ ap (λ (k : C). b ⊖ k) (word-left more) in
         let parts : (getD whole i z ≡ a ⊕ x ⊗ (b ⊖ a) ⊕ d ⊗ carry) × (drop (suc i) whole ≡ rest) =
-        first-left whole rest i _ (omega (arith, long))
-        (h .left ∙ ap₂ (along N x d carry) (drop-cons low i z (omega (arith, low-long))) (drop-cons high i z more)) in
+        first-left whole rest i _ (omega arith) (h .left ∙ ap₂ (along N x d carry) (drop-cons low i z (omega arith)) (drop-cons high i z more)) in
         record {
           within = omega arith;
           room = h .room;
-          size = length-set row i c ∙ h .size;
-          front = ap₂ (λ (r : List C) (k : C). set r i k) (h .front)
-              (coefficient ∙ ap₂ (λ (k l : C). k ⊕ x ⊗ l ⊕ d ⊗ carry) (word-left more) same ∙ sym (parts .0))
-              ∙ over-next whole row₀ i z (omega (arith, long)) (omega (arith, long));
+          front = next (h .front) z c (omega arith)
+              (coefficient ∙ ap₂ (λ (k l : C). k ⊕ x ⊗ l ⊕ d ⊗ carry) (word-left more) same ∙ sym (parts .0));
           left = ap (λ (n : ℕ). drop n whole) (add-one i) ∙ parts .1
               ∙ ap₂ (λ (k : C) (n : ℕ). along N x d k (drop n low) (drop n high)) (sym same) (sym (add-one i));
         }
@@ -85,13 +79,11 @@ module _ {C : Type 0} (N : Numbers C) (z x d : C) (row₀ high : List C) where
     pub end : (c : C) → m ≤ i → c ≡ d ⊗ carry → set row m c ≡ over whole row₀
     unfolding along
     end c all coefficient =
-        let room : m < length row₀ = h .room in
         let within : i ≤ m = h .within in
+        let size = long (h .room) in
         let here : i ≡ m = omega arith in
-        let none : drop i low ≡ [] = drop-of-length-le low {i = i} (omega (arith, low-long)) in
+        let none : drop i low ≡ [] = drop-of-length-le low {i = i} (omega (arith, low-long (h .room))) in
         let parts : (getD whole i z ≡ d ⊗ carry) × (drop (suc i) whole ≡ []) =
-        first-left whole [] i _ (omega (arith, long)) (h .left ∙ ap (λ (l : List C). along N x d carry l (drop i high)) none) in
-        ap₂ (λ (n : ℕ) (k : C). set row n k) (sym here) (coefficient ∙ sym (parts .0))
-        ∙ ap (λ (r : List C). set r i (getD whole i z)) (h .front)
-        ∙ over-next whole row₀ i z (omega (arith, long)) (omega (arith, long))
-        ∙ over-all whole row₀ (i + 1) (omega (arith, long))
+        first-left whole [] i _ (omega arith) (h .left ∙ ap (λ (l : List C). along N x d carry l (drop i high)) none) in
+        ap (λ (n : ℕ). set row n c) (sym here)
+        ∙ stored-end (next (h .front) z c (omega arith) (coefficient ∙ sym (parts .0))) (omega arith)

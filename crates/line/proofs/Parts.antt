@@ -6,9 +6,8 @@ use Prim.Native.Nat.{ℕ, suc, _-_, _/_, _<_}
 use native.Mathlib.Omega.{arith}
 use lib.ListN.{length, take, drop, getD, set, length-drop}
 use Rattle.lists.specs.Buffer.{over}
-use Rattle.lists.proofs.Buffer.{take-over, over-set, over-over}
+use Rattle.lists.proofs.Buffer.{take-over, over-set, over-over, rest-lent}
 use Rattle.algebra.specs.Numbers.{Numbers}
-use Rattle.extension.proofs.Halves.{to-end}
 use Rattle.sumcheck.specs.Line.{along, lineHalving}
 use Rattle.sumcheck.proofs.Line.{line-none, line-step, length-lineHalving}
 
@@ -34,8 +33,8 @@ module _ {C : Type 0} (N : Numbers C) (d : C) (vs u v : List C) (same : length u
 
   pub length-half : (ws : List C) → length (line ws) ≡ length u
   length-half ws =
-      let rest-u = to-end 1 u in
-      let rest-v = to-end 1 v in
+      let rest-u = rest-lent u 1 (length u) refl in
+      let rest-v = rest-lent v 1 (length v) refl in
       let sizes : length (drop 1 u) ≡ length (drop 1 v) = simp length-drop (omega arith) in
       rw (rest-u, rest-v) (length-lineHalving N ws (drop 1 u) (drop 1 v) sizes ∙ simp length-drop (omega arith))
 
@@ -43,9 +42,9 @@ module _ {C : Type 0} (N : Numbers C) (d : C) (vs u v : List C) (same : length u
       → r ≡ over (joined (take (length high) low) high) low
       → r ≡ over (lineHalving N vs u v) row
   from-halves row low high r l h e =
-      let rest-u = to-end 1 u in
-      let rest-v = to-end 1 v in
-      let upper = to-end half vs in
+      let rest-u = rest-lent u 1 (length u) refl in
+      let rest-v = rest-lent v 1 (length v) refl in
+      let upper = rest-lent vs half (length vs) refl in
       let front : take (length high) low ≡ line (take half vs) =
       take-front (line (take half vs)) row low (length high) l (length-half (take half vs) ∙ sym (ap length h ∙ length-half (take (length vs - half) (drop half vs)))) in
       let whole : joined (line (take half vs)) (line (take (length vs - half) (drop half vs))) ≡ lineHalving N vs u v =
@@ -65,4 +64,4 @@ module _ {C : Type 0} (N : Numbers C) (d : C) (vs u v : List C) (same : length u
       (h ∙ sym (line-none N (take (length vs - half) (drop half vs)) (take (length u - 1) (drop 1 u)) (take (length v - 1) (drop 1 v)) none)) e
     where
       none : length (take (length u - 1) (drop 1 u)) ≡ 0
-      none = let rest-u = to-end 1 u in rw rest-u (simp length-drop (omega arith))
+      none = let rest-u = rest-lent u 1 (length u) refl in rw rest-u (simp length-drop (omega arith))

@@ -6,7 +6,7 @@ use Prim.Native.Nat.{ℕ, suc, _+_, _-_, _≤_, _<_}
 use native.Mathlib.Omega.{arith}
 use native.Mathlib.Numerals.{add-one}
 use lib.ListN.{length, getD, set, take, drop, length-append, length-drop, drop-of-length-le}
-use lib.Seq.{take-suc, length-take-le, take-at, drop-at, drop-drop, take-all, drop-cons, set-at, take-append-seam, drop-append-seam, getD-append-add, getD-drop}
+use lib.Seq.{take-at, drop-at, drop-drop, take-all, drop-cons, set-at, take-append-seam, drop-append-seam, getD-append-add, getD-drop}
 use Rattle.lists.specs.Buffer.{over}
 
 module _ {A : Type 0} where
@@ -61,16 +61,6 @@ module _ {A : Type 0} where
       let whole : take (length buf - at) (drop (length ms) l) ≡ drop (length ms) l = take-all (length buf - at) (drop (length ms) l) all in
       let none : drop (length buf - at) (drop (length ms) l) ≡ [] = drop-of-length-le (drop (length ms) l) all in
       rw (p, rest, front, whole, none) (simp (drop-drop, length-append, append-assoc, append-nil))
-
-  -- A list stored word by word: i of them stand, then one more, then all.
-  pub over-next : (ms l : List A) (i : ℕ) (d : A) → i < length ms → length ms ≤ length l
-      → set (over (take i ms) l) i (getD ms i d) ≡ over (take (i + 1) ms) l
-  over-next ms l i d h fits =
-      over-set (take i ms) l i (getD ms i d) (length-take-le i ms (omega arith)) (omega arith)
-      ∙ ap (λ (t : List A). over t l) (sym (take-suc ms i d h) ∙ ap (λ (k : ℕ). take k ms) (sym (add-one i)))
-
-  pub over-all : (ms l : List A) (i : ℕ) → length ms ≤ i → over (take i ms) l ≡ over ms l
-  over-all ms l i h = ap (λ (t : List A). over t l) (take-all i ms h)
 
   -- The rest of a list of n words from `at` on, lent as the borrow checker lends it, and put back.
   pub rest-lent : (l : List A) (at n : ℕ) → length l ≡ n → take (n - at) (drop at l) ≡ drop at l

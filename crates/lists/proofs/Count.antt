@@ -27,6 +27,16 @@ pub sum-cons : (n : ℕ) (l : List ℕ) → sum (n ∷ l) ≡ n + sum l
 unfolding sum
 sum-cons n l = refl
 
+-- after some, those of the elements left make n of them: the first's are there, and pass
+module _ {A : Type 0} (f : A → ℕ) (x : A) (l : List A) (some n : ℕ) (e : some + sum (map f (x ∷ l)) ≡ n) where
+  pub sum-there : some + f x ≤ n
+  unfolding sum
+  sum-there = omega arith
+
+  pub sum-passed : some + f x + sum (map f l) ≡ n
+  unfolding sum
+  sum-passed = omega arith
+
 pub sum-append : (l m : List ℕ) → sum (l ++ m) ≡ sum l + sum m
 unfolding sum
 sum-append [] m = sym (zero-add _)

@@ -1,11 +1,11 @@
 -- Horner's rule from the last coefficient: with `left` coefficients to come, the value is that of the coefficients passed.
 -- Assumes nothing.
 use mathlib.Core.Path.{_≡_, sym, ap, _∙_}
-use mathlib.Core.List.{List, _∷_}
-use Prim.Native.Nat.{ℕ, suc, _-_, _≤_, _<_}
+use mathlib.Core.List.{List}
+use Prim.Native.Nat.{ℕ, _-_, _≤_, _<_}
 use native.Mathlib.Omega.{arith}
 use lib.ListN.{length, drop, getD, drop-of-length-le}
-use lib.Seq.{drop-cons}
+use Rattle.lists.proofs.Steps.{drop-down}
 use Rattle.algebra.specs.Numbers.{Numbers}
 use Rattle.algebra.specs.Polynomial.{valueAt}
 
@@ -27,12 +27,9 @@ module _ {C : Type 0} (N : Numbers C) where
   unfolding valueAt
   step coefficients d x value next left h more e =
       let within = h .within in
-      let again : suc (left - 1) ≡ left = omega arith in
-      let cons : drop (left - 1) coefficients ≡ getD coefficients (left - 1) d ∷ drop left coefficients =
-      drop-cons coefficients (left - 1) d (omega arith) ∙ ap (λ (n : ℕ). getD coefficients (left - 1) d ∷ drop n coefficients) again in
       record {
         within = omega arith;
-        passed = rw cons (e ∙ ap (λ (y : C). N .add (getD coefficients (left - 1) d) (N .mul x y)) (h .passed));
+        passed = rw (drop-down coefficients left d more within) (e ∙ ap (λ (y : C). N .add (getD coefficients (left - 1) d) (N .mul x y)) (h .passed));
       }
 
   pub end : (coefficients : List C) (x value : C) (left : ℕ) → Horner coefficients x value left → left ≡ 0

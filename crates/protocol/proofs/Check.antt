@@ -6,14 +6,13 @@ use mathlib.Core.Bool.{Bool, false}
 use mathlib.Core.List.{List}
 use lib.Dec.{eqb, ltb}
 use lib.ListN.{length}
-use borrow.Author.Tests.{eq-eqb, eqb-true, lt-ltb, ltb-true}
+use borrow.Author.Tests.{eq-eqb, lt-ltb, ltb-true}
 use Rattle.lists.specs.Each.{All}
 use Rattle.counting.specs.Coins.{CoinList}
 use Rattle.refusal.specs.Order.{need, first}
 use Rattle.refusal.proofs.Order.{first-none, need-none, first-more, need-more}
 use Rattle.circuit.specs.Circuit.{primeOf, coinCount, messageWords}
-use Rattle.circuit.specs.Legal.{allBelow, listsCause}
-use Rattle.circuit.proofs.Layers.{all-below, below-all}
+use Rattle.circuit.specs.Legal.{listsCause}
 use Rattle.walk.specs.Rule.{Rule, play, byRule}
 use Rattle.walk.proofs.Play.{walk-said}
 use Rattle.walk.proofs.Session.{said-sized, sized-words}
@@ -24,6 +23,7 @@ use Rattle.protocol.specs.Check.{needCoins, Counted, walkFrom, checkAnsw
 use Rattle.protocol.specs.Session.{openCause}
 use Rattle.protocol.specs.Prove.{messagesOn, transcript}
 use Rattle.protocol.specs.Accept.{FitsCircuit}
+use Rattle.protocol.proofs.Coins.{coins-taken, coin-list, coins-more}
 use Rattle.protocol.proofs.Rounds.{coins-split}
 use Rattle.protocol.proofs.Sums.{message-words}
 
@@ -38,12 +38,11 @@ unfolding openCause
 opened c input y cs e =
     let lists = first-none (listsCause c input) _ e in
     let output = need-none (ltb y (primeOf c)) 12 _ (lists .1) in
-    let number = need-none (eqb (length cs) (coinCount c)) 10 _ (output .1) in
-    let small = need-none (allBelow (primeOf c) cs) 11 _ (number .1) in
+    let coins = coin-list c cs 0 (output .1) in
     record {
-      given = record { lists = lists .0; coins = eqb-true (length cs) (coinCount c) (number .0) };
+      given = record { lists = lists .0; coins = coins .0 };
       output = ltb-true y (primeOf c) (output .0);
-      below = all-below (primeOf c) cs (small .0);
+      below = coins .1;
     }
 
 pub opens-on : (c input : List ℕ) (y : ℕ) (cs : List ℕ) → listsCause c input ≡ 0 → y < primeOf c → CoinList (primeOf c) (coinCount c) cs
@@ -52,10 +51,6 @@ opens-on c input y cs legal small v = record { given = record { lists = legal; c
 
 pub its-coins : {c input : List ℕ} {y : ℕ} {cs : List ℕ} → Opened c input y cs → CoinList (primeOf c) (coinCount c) cs
 its-coins o = (o .given .coins, o .below)
-
--- the coins of a coin list are not refused
-pub coins-taken : (c cs : List ℕ) (rest : ℕ) → CoinList (primeOf c) (coinCount c) cs → needCoins c cs rest ≡ rest
-coins-taken c cs rest v = rw (eq-eqb (length cs) (coinCount c) (v .0), below-all (primeOf c) cs (v .1)) refl
 
 pub open-legal : (c input : List ℕ) (y : ℕ) (cs : List ℕ) → Opened c input y cs → openCause c input y cs ≡ 0
 unfolding openCause
@@ -77,11 +72,9 @@ pub check-opening : (c input : List ℕ) (y : ℕ) (cs ms : List ℕ)
 unfolding checkAnswer openCause
 check-opening c input y cs ms =
     let rest : ℕ = need (eqb (length ms) (messageWords c)) 14 (walkFrom c input (firstClaim c y cs) cs ms) in
-    let number = eqb (length cs) (coinCount c) in
-    let small = allBelow (primeOf c) cs in
     sym (first-more (listsCause c input) (need (ltb y (primeOf c)) 13 (needCoins c cs 0)) rest
     ∙ ap (first (listsCause c input)) (need-more (ltb y (primeOf c)) 12 (needCoins c cs 0) rest
-    ∙ ap (need (ltb y (primeOf c)) 13) (need-more number 10 (need small 12 0) rest ∙ ap (need number 11) (need-more small 11 0 rest))))
+    ∙ ap (need (ltb y (primeOf c)) 13) (coins-more c cs rest)))
 
 -- once nothing is refused, the walk decides
 pub check-walk : (c input : List ℕ) (y : ℕ) (cs ms : List ℕ) → Opened c input y cs → length ms ≡ messageWords c

@@ -3,6 +3,7 @@ pub mod Points
 pub mod Sums
 pub mod Truth
 pub mod Descent
+pub mod Coins
 pub mod Check
 pub mod Session
 pub mod Theorems

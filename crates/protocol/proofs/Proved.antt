@@ -8,15 +8,13 @@ use mathlib.Core.List.{List}
 use native.Mathlib.Omega.{arith}
 use lib.Dec.{eqb, ltb}
 use lib.ListN.{length, length-take, take}
-use borrow.Author.Tests.{ltb-true, eqb-true}
+use borrow.Author.Tests.{ltb-true}
 use Rattle.lists.specs.Buffer.{over}
 use Rattle.lists.proofs.Buffer.{take-over}
-use Rattle.counting.specs.Coins.{CoinList}
 use Rattle.refusal.proofs.Order.{first-none, need-none}
-use Rattle.circuit.specs.Circuit.{primeOf, outputExponent, coinCount, messageWords}
-use Rattle.circuit.specs.Legal.{allBelow, listsCause}
+use Rattle.circuit.specs.Circuit.{outputExponent, coinCount, messageWords}
+use Rattle.circuit.specs.Legal.{listsCause}
 use Rattle.circuit.specs.Values.{value}
-use Rattle.circuit.proofs.Layers.{all-below}
 use Rattle.walk.specs.Game.{passes}
 use Rattle.protocol.specs.Start.{coinsTo}
 use Rattle.protocol.specs.Judge.{messageLength}
@@ -24,6 +22,7 @@ use Rattle.protocol.specs.Check.{checkAnswer}
 use Rattle.protocol.specs.Prove.{Proof, proved, refused, OneMessage, wrote, proofOf, oneOf, honest}
 use Rattle.protocol.specs.Prove.{transcript, placeOf, proveCause, proveAnswer, proveBuffer, proveOneCause, proveOneAnswer, proveOneBuffer}
 use Rattle.protocol.specs.Theorems.{Demand3, ProvedAccepted, ProvedInTurn}
+use Rattle.protocol.proofs.Coins.{coin-list}
 use Rattle.protocol.proofs.Check.{length-transcript}
 use Rattle.protocol.proofs.Theorems.{honest-fits, whole-sound, whole-complete, session-sound, session-complete, honest-by-prefix}
 
@@ -61,9 +60,7 @@ unfolding proveAnswer proveBuffer proveCause
 proved-accepted c input cs buffer y n e =
     let told = no-cause (proveCause c input cs buffer) (value c input) (messageWords c) y n e in
     let lists = first-none (listsCause c input) _ (told .0) in
-    let number = need-none (eqb (length cs) (coinCount c)) 10 _ (lists .1) in
-    let small = need-none (allBelow (primeOf c) cs) 11 _ (number .1) in
-    let coins : CoinList (primeOf c) (coinCount c) cs = (eqb-true (length cs) (coinCount c) (number .0), all-below (primeOf c) cs (small .0)) in
+    let coins = coin-list c cs _ (lists .1) in
     let all : List ℕ = transcript c (honest c input) cs in
     let size : length all ≡ n = length-transcript c (honest c input) (honest-fits c input (lists .0)) cs coins ∙ told .2 in
     let written : take n (cond (eqb (proveCause c input cs buffer) 0) (over all buffer) buffer) ≡ all =

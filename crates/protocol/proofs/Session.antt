@@ -18,7 +18,7 @@ use Rattle.protocol.specs.Session.{recordFits, stepCause, stepAfter, ste
 use Rattle.protocol.proofs.Rounds.{within}
 use Rattle.protocol.proofs.Truth.{positive}
 use Rattle.protocol.proofs.Descent.{Stands, stands-here, stands-follows, stands-next}
-use Rattle.protocol.proofs.Check.{coins-taken}
+use Rattle.protocol.proofs.Coins.{coins-taken}
 
 module _ (c input : List ℕ) (legal : listsCause c input ≡ 0) (cs : List ℕ) (coins : CoinList (primeOf c) (coinCount c) cs) where
   -- only the record can be refused

@@ -1,7 +1,7 @@
 -- The round that follows a coin prefix, layer by layer; and the answer of one message, refusal by refusal.
 -- Assumes nothing.
 use Prim.Native.Nat.{ℕ, zero, suc, _+_, _-_, _*_, _≤_, _<_}
-use mathlib.Core.Path.{_≡_, sym, ap, _∙_}
+use mathlib.Core.Path.{_≡_, refl, sym, ap, _∙_}
 use mathlib.Core.Bool.{Bool, true, false, cond}
 use mathlib.Core.List.{List}
 use native.Mathlib.Omega.{arith}
@@ -15,7 +15,7 @@ use Rattle.refusal.specs.Number.{numberOf}
 use Rattle.refusal.specs.Order.{need}
 use Rattle.refusal.specs.declared.Cause.{Cause}
 use Rattle.refusal.specs.declared.Cause.the-variants.{BufferShort, CoinCount, CoinWord}
-use Rattle.refusal.proofs.Order.{refused-first, numbered-suc, left-by}
+use Rattle.refusal.proofs.Order.{refused-first, refused-by, left-by}
 use Rattle.circuit.specs.Circuit.{primeOf, depth, outputExponent, exponentAt, coinCount}
 use Rattle.circuit.specs.Legal.{allBelow, listsCause}
 use Rattle.circuit.specs.Sized.{LegalCircuit}
@@ -71,13 +71,10 @@ module _ (c input prefix before : List ℕ) where
   -- a cause, whatever it is, leaves the buffer
   by-cause : (cause : Cause) → proveOneCause c input prefix before ≡ numberOf cause → ProvesOne c input prefix before (Refused cause) before
   unfolding proveOneAnswer proveOneBuffer
-  by-cause cause e =
-      let n : ℕ = numbered-suc cause .0 in
-      let s : numberOf cause ≡ suc n = numbered-suc cause .1 in
-      record {
-        answer = ap refused s ∙ sym (ap (λ (k : ℕ). oneOf k (messageLength c (placeOf c prefix))) (e ∙ s));
-        buffer = sym (left-by cause (proveOneCause c input prefix before) (over (honest c input (placeOf c prefix) prefix) before) before e);
-      }
+  by-cause cause e = record {
+    answer = refused-by (λ k. oneOf k (messageLength c (placeOf c prefix))) refused (λ n. refl) cause (proveOneCause c input prefix before) e;
+    buffer = sym (left-by cause (proveOneCause c input prefix before) (over (honest c input (placeOf c prefix) prefix) before) before e);
+  }
 
   pub one-lists : (cause : Cause) → numberOf cause ≡ listsCause c input → ProvesOne c input prefix before (Refused cause) before
   unfolding proveOneCause

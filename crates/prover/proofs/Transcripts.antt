@@ -9,7 +9,7 @@ use lib.ListN.{length, length-drop, length-take, take, drop}
 use lib.Seq.{take-all, length-take-le}
 use Rattle.lists.specs.Count.{sum}
 use Rattle.lists.specs.Buffer.{over}
-use Rattle.lists.proofs.Count.{sum-nil, sum-cons}
+use Rattle.lists.proofs.Count.{sum-nil, sum-there, sum-passed}
 use Rattle.lists.proofs.Buffer.{length-over, over-over, over-more}
 use Rattle.circuit.specs.Circuit.{depth, outputExponent, exponentAt, messageWords}
 use Rattle.circuit.specs.Sized.{LegalCircuit}
@@ -83,7 +83,7 @@ module _ (c input cs first : List ℕ) where
       round-place = loops.round-place c legal (Rest at) layer round n (b .reached) more cs (let there = coins-there in omega arith)
 
       enough : at + messageLength c (place layer round) ≤ length first
-      enough = omega (arith, opened .1, h .room, sum-cons (messageLength c (place layer round)) (map (messageLength c) (before-round c layer (round + 1))))
+      enough = omega (arith, sum-there (messageLength c) (place layer round) (before-round c layer (round + 1)) at (messageWords c) (opened .1), h .room)
 
       pub same-size : length buffer ≡ length first
       same-size = ap length (b .written) ∙ length-over (take at all) first (let room = enough in omega (arith, length-take at all))
@@ -111,7 +111,7 @@ module _ (c input cs first : List ℕ) where
                 loops.round-next c legal (Rest at) layer round n (b .reached) more (Rest (at + w)) (
                   subst (λ (m : ℕ). Saying (honest c input) (rounds c) (outputExponent c) cs (before-round c layer (round + 1)) (n + 1) (at + m)) sw
                       (saying-next (honest c input) (rounds c) (outputExponent c) cs (place layer round) (before-round c layer (round + 1)) n at said),
-                  omega (arith, ew, opened .1, sum-cons (messageLength c (place layer round)) (map (messageLength c) (before-round c layer (round + 1)))),
+                  rw ew (sum-passed (messageLength c) (place layer round) (before-round c layer (round + 1)) at (messageWords c) (opened .1)),
                 );
             written =
                 over-more (take at all) message first buffer part at (b .written) front e (omega (arith, front, size))

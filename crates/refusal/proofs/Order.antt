@@ -5,11 +5,13 @@ use mathlib.Core.Path.{_≡_, refl, sym, ap, _∙_}
 use mathlib.Core.Bool.{Bool, true, false, cond}
 use native.Mathlib.Nat.{suc-ne-zero}
 use lib.Dec.{eqb, eqb·suc-zero}
-use Rattle.refusal.specs.Number.{numberOf}
+use Rattle.refusal.specs.Number.{numberOf, causeOf}
 use Rattle.refusal.specs.Order.{need, first}
 use Rattle.refusal.specs.declared.Cause.{Cause}
 use Rattle.refusal.specs.declared.Cause.the-variants.{HeaderShort, PrimeUnlisted, DepthRange, ExponentRange, WordCount, GateKind, GateWires, InputCount, InputWord, BufferShort}
 use Rattle.refusal.specs.declared.Cause.the-variants.{CoinCount, CoinWord, OutputWord, MessageLength, MessageWord, RoundDiffers, LineDiffers, InputDiffers, RecordUnfit, BytesUnfit}
+use Rattle.refusal.specs.declared.Checked.{Checked}
+use Rattle.refusal.specs.declared.Checked.the-variants.{Legal, Refused}
 
 -- each number is above 0
 numbered : (cause : Cause) (rest : ℕ) → first (numberOf cause) rest ≡ numberOf cause
@@ -35,20 +37,27 @@ numbered RecordUnfit rest = refl
 numbered BytesUnfit rest = refl
 
 -- a cause's number as a successor, for what goes by cases on it
-pub numbered-suc : (cause : Cause) → (n : ℕ) × (numberOf cause ≡ suc n)
+numbered-suc : (cause : Cause) → (n : ℕ) × (numberOf cause ≡ suc n)
 numbered-suc cause = go (numberOf cause) refl
   where
     go : (n : ℕ) → numberOf cause ≡ n → (m : ℕ) × (numberOf cause ≡ suc m)
     go zero e = absurd (suc-ne-zero 0 (ap (λ (k : ℕ). first k 1) (sym e) ∙ numbered cause 1 ∙ e))
     go (suc n) e = (n, e)
 
+-- what a check's answer says of the number that it promised: it is the cause's, or there is none
+pub refusal-told : {r : Checked} {cause : Cause} {n : ℕ} → r ≡ Refused cause → causeOf r ≡ n → numberOf cause ≡ n
+refusal-told e told = sym (ap causeOf e) ∙ told
+
+pub none-told : {r : Checked} {n : ℕ} → r ≡ Legal → causeOf r ≡ n → n ≡ 0
+none-told e told = sym told ∙ ap causeOf e
+
 -- a refusal is passed on
 pub refused-first : (cause : Cause) (n rest : ℕ) → numberOf cause ≡ n → first n rest ≡ numberOf cause
 refused-first cause n rest e = ap (λ (k : ℕ). first k rest) (sym e) ∙ numbered cause rest
 
 -- no refusal: the next check decides
-pub legal-first : (n rest : ℕ) → 0 ≡ n → first n rest ≡ rest
-legal-first n rest e = ap (λ (k : ℕ). first k rest) (sym e)
+pub legal-first : (n rest : ℕ) → n ≡ 0 → first n rest ≡ rest
+legal-first n rest e = ap (λ (k : ℕ). first k rest) e
 
 -- no refusal of both: none of either
 pub first-none : (n rest : ℕ) → first n rest ≡ 0 → (n ≡ 0) × (rest ≡ 0)
@@ -68,8 +77,13 @@ pub need-more : (b : Bool) (n more rest : ℕ) → first (need b (suc n) more) r
 need-more true n more rest = refl
 need-more false n more rest = refl
 
--- where a cause is found, nothing is written
+-- where a cause is found, an answer that goes by the number is the refusal with it, and nothing is written
+pub refused-by : {A : Type 0} (answer refusal : ℕ → A) → ((n : ℕ) → refusal (suc n) ≡ answer (suc n)) → (cause : Cause) (n : ℕ) → n ≡ numberOf cause
+    → refusal (numberOf cause) ≡ answer n
+refused-by answer refusal same cause n e =
+    let s = numbered-suc cause in
+    ap refusal (s .1) ∙ same (s .0) ∙ sym (ap answer (e ∙ s .1))
+
 pub left-by : {A : Type 0} (cause : Cause) (n : ℕ) (written before : A) → n ≡ numberOf cause → cond (eqb n 0) written before ≡ before
 left-by cause n written before e =
-    let s = numbered-suc cause in
-    ap (λ (k : ℕ). cond (eqb k 0) written before) (e ∙ s .1) ∙ ap (λ (b : Bool). cond b written before) (eqb·suc-zero (s .0))
+    sym (refused-by (λ k. cond (eqb k 0) written before) (λ k. before) (λ k. sym (ap (λ (b : Bool). cond b written before) (eqb·suc-zero k))) cause n e)

@@ -4,9 +4,7 @@ use Prim.Native.Nat.{ℕ, zero, suc, _+_, _*_, _≤_, _<_}
 use mathlib.Core.Path.{_≡_, refl, sym, subst, ap, _∙_}
 use mathlib.Core.Bool.{Bool, true, false}
 use mathlib.Core.List.{List, [], _∷_, _++_}
-use native.Mathlib.Nat.{suc-ne-zero}
 use native.Mathlib.Omega.{arith}
-use lib.Dec.{eqb}
 use lib.ListN.{length, take, drop, getD, take-append-drop}
 use lib.Seq.{take-suc, take-all, length-take-le}
 use borrow.Author.Tests.{eqb-true}
@@ -14,18 +12,18 @@ use Rattle.refusal.specs.Number.{numberOf}
 use Rattle.refusal.specs.Order.{need, first}
 use Rattle.refusal.specs.declared.Cause.{Cause}
 use Rattle.refusal.specs.declared.Cause.the-variants.{RecordUnfit}
-use Rattle.refusal.proofs.Order.{numbered-suc, refused-first}
+use Rattle.refusal.proofs.Order.{refused-by, refused-first}
 use Rattle.circuit.specs.Limits.{maxCoins}
-use Rattle.circuit.specs.Circuit.{primeOf, depth, outputExponent, exponents, exponentAt, coinCount}
-use Rattle.circuit.specs.Legal.{allBelow, listsCause}
+use Rattle.circuit.specs.Circuit.{depth, outputExponent, exponents, exponentAt, coinCount}
+use Rattle.circuit.specs.Legal.{listsCause}
 use Rattle.circuit.proofs.Loading.{split-true}
 use Rattle.circuit.proofs.Sized.{deep}
 use Rattle.circuit.proofs.Largest.{in-limits}
 use Rattle.walk.specs.Session.{Answer, refused, Record, ended, stepFinal, stepLast, stepJudge, stepOpen, step}
 use Rattle.protocol.specs.Rounds.{Place, place, coinsOf, layerStart, isLine, coinsBefore, isLast, AtRound}
 use Rattle.protocol.specs.Judge.{messageAt, judge, inputAgrees, descent}
-use Rattle.protocol.specs.Check.{needCoins}
 use Rattle.protocol.specs.Session.{recordFits, stepCause, stepAfter, stepAnswer}
+use Rattle.protocol.proofs.Coins.{CoinsRefused, Admitted, counted, by-coins, by-rest}
 use Rattle.protocol.proofs.Points.{start-next}
 use Rattle.protocol.proofs.Rounds.{coins-append}
 use Rattle.session.specs.Answers.{recordOf, verdictOf, Fitting, goesOn, GoesOn, StepsOpen, Steps}
@@ -114,9 +112,8 @@ module _ (c input cs : List ℕ) (s : Session) (h : Fitting c input cs s) (n : �
 
     step-ends : (k : Cause) → numberOf k ≡ cause → step (descent c) (inputAgrees c input) cs (recordOf s) m ≡ (refused (numberOf k), ended (recordOf s))
     step-ends k e =
-        let t = numbered-suc k in
-        step-is ∙ ap (λ (j : ℕ). stepJudge (descent c) (inputAgrees c input) j (take n cs) coin (recordOf s) m) (sym e ∙ t .1)
-        ∙ ap (λ (j : ℕ). (refused j, ended (recordOf s))) (sym (t .1))
+        step-is ∙ sym (refused-by (λ j. stepJudge (descent c) (inputAgrees c input) j (take n cs) coin (recordOf s) m)
+        (λ j. (refused j, ended (recordOf s))) (λ j. refl) k cause (sym e))
 
     pub refused-open : (k : Cause) → numberOf k ≡ cause → (r : Stepped) → verdictOf (r .verdict) ≡ refused (numberOf k)
         → recordOf (r .session) ≡ ended (recordOf s) → StepsOpen c input cs s m r
@@ -133,36 +130,17 @@ module _ (c input cs : List ℕ) (s : Session) (h : Fitting c input cs s) (n : �
           after = goes .after ∙ sym (ap (λ (x : Answer × Record Place). x .1) same);
         }
 
--- 11 AND 12 come before what else is tried
-module _ (a b : Bool) (rest : ℕ) where
-  need-refused : (k : Cause) → numberOf k ≡ need a 11 (need b 12 0) → need a 11 (need b 12 rest) ≡ numberOf k
-  need-refused k e = go a b e
-    where
-      go : (x y : Bool) → numberOf k ≡ need x 11 (need y 12 0) → need x 11 (need y 12 rest) ≡ numberOf k
-      go true true q = absurd (suc-ne-zero (numbered-suc k .0) (sym (numbered-suc k .1) ∙ q))
-      go true false q = sym q
-      go false y q = sym q
-
-  need-taken : 0 ≡ need a 11 (need b 12 0) → (a ≡ true) × (need a 11 (need b 12 rest) ≡ rest)
-  need-taken e = go a b e
-    where
-      go : (x y : Bool) → 0 ≡ need x 11 (need y 12 0) → (x ≡ true) × (need x 11 (need y 12 rest) ≡ rest)
-      go true true q = (refl, refl)
-      go true false q = absurd (suc-ne-zero 11 (sym q))
-      go false y q = absurd (suc-ne-zero 10 (sym q))
-
 -- A STEP, refusal by refusal
 module _ (c input cs : List ℕ) (s : Session) (m : List ℕ) where
   left-by : (k : Cause) → stepCause c input cs (recordOf s) ≡ numberOf k → (r : Stepped) → verdictOf (r .verdict) ≡ refused (numberOf k)
       → recordOf (r .session) ≡ recordOf s → Steps c input cs s m r
   unfolding stepAnswer
   left-by k e r answer after =
-      let t = numbered-suc k in
-      let same : stepAfter (stepCause c input cs (recordOf s)) c input cs (recordOf s) m ≡ (refused (numberOf k), recordOf s) =
-      ap (λ (j : ℕ). stepAfter j c input cs (recordOf s) m) (e ∙ t .1) ∙ ap (λ (j : ℕ). (refused j, recordOf s)) (sym (t .1)) in
+      let same : (refused (numberOf k), recordOf s) ≡ stepAfter (stepCause c input cs (recordOf s)) c input cs (recordOf s) m =
+      refused-by (λ j. stepAfter j c input cs (recordOf s) m) (λ j. (refused j, recordOf s)) (λ j. refl) k (stepCause c input cs (recordOf s)) e in
       record {
-        answer = answer ∙ sym (ap (λ (x : Answer × Record Place). x .0) same);
-        after = after ∙ sym (ap (λ (x : Answer × Record Place). x .1) same);
+        answer = answer ∙ ap (λ (x : Answer × Record Place). x .0) same;
+        after = after ∙ ap (λ (x : Answer × Record Place). x .1) same;
       }
 
   module _ (k : Cause) (r : Stepped) (answer : verdictOf (r .verdict) ≡ refused (numberOf k)) (after : recordOf (r .session) ≡ recordOf s) where
@@ -170,28 +148,21 @@ module _ (c input cs : List ℕ) (s : Session) (m : List ℕ) where
     unfolding stepCause
     left-lists e = left-by k (refused-first k (listsCause c input) _ e) r answer after
 
-    pub left-coins : listsCause c input ≡ 0 → numberOf k ≡ needCoins c cs 0 → Steps c input cs s m r
+    pub left-coins : CoinsRefused c input cs k → Steps c input cs s m r
     unfolding stepCause
-    left-coins legal e =
-        left-by k (rw legal (need-refused (eqb (length cs) (coinCount c)) (allBelow (primeOf c) cs) (need (recordFits c (recordOf s)) 19 0) k e)) r answer after
+    left-coins refusal = left-by k (by-coins c input cs _ k refusal) r answer after
 
-  module _ (legal : listsCause c input ≡ 0) (taken : 0 ≡ needCoins c cs 0) where
+  module _ (a : Admitted c input cs) where
     only-record : stepCause c input cs (recordOf s) ≡ need (recordFits c (recordOf s)) 19 0
     unfolding stepCause
-    only-record = rw legal (need-taken (eqb (length cs) (coinCount c)) (allBelow (primeOf c) cs) (need (recordFits c (recordOf s)) 19 0) taken .1)
+    only-record = by-rest c input cs _ a
 
     pub left-record : (r : Stepped) → verdictOf (r .verdict) ≡ refused (numberOf RecordUnfit) → recordOf (r .session) ≡ recordOf s
         → recordFits c (recordOf s) ≡ false → Steps c input cs s m r
     left-record r answer after e = left-by RecordUnfit (only-record ∙ ap (λ (b : Bool). need b 19 0) e) r answer after
 
     pub fitting : recordFits c (recordOf s) ≡ true → Fitting c input cs s
-    fitting e = record {
-      given = record {
-        lists = legal;
-        coins = eqb-true (length cs) (coinCount c) (need-taken (eqb (length cs) (coinCount c)) (allBelow (primeOf c) cs) 0 taken .0);
-      };
-      fits = e;
-    }
+    fitting e = record { given = counted a; fits = e }
 
     pub steps-open : recordFits c (recordOf s) ≡ true → (r : Stepped) → StepsOpen c input cs s m r → Steps c input cs s m r
     unfolding stepAnswer

@@ -10,13 +10,20 @@ use lib.ListN.{length, take}
 use lib.Seq.{take-all}
 use borrow.Author.Tests.{eq-eqb, ne-eqb}
 use Rattle.lists.proofs.Count.{sum-nil, sum-take}
+use Rattle.refusal.specs.Number.{causeOf}
+use Rattle.refusal.specs.declared.Cause.{Cause}
+use Rattle.refusal.specs.declared.Checked.{Checked}
+use Rattle.refusal.specs.declared.Checked.the-variants.{Legal, Refused}
+use Rattle.refusal.proofs.Order.{refusal-told, none-told}
 use Rattle.circuit.specs.Circuit.{primeOf, depth, outputExponent, exponents, exponentAt, coinCount, messageWords}
-use Rattle.circuit.specs.Legal.{allBelow}
+use Rattle.circuit.specs.Legal.{allBelow, listsCause}
 use Rattle.circuit.specs.Sized.{LegalCircuit}
 use Rattle.circuit.proofs.Sized.{deep}
+use Rattle.circuit.proofs.Loading.{legal-lists}
 use Rattle.protocol.specs.Rounds.{layerStart}
 use Rattle.protocol.specs.Check.{needCoins}
-use Rattle.standing.specs.Standing.{LayerSoFar, layerSum, SumBefore}
+use Rattle.protocol.proofs.Coins.{CoinsRefused, Admitted}
+use Rattle.standing.specs.Standing.{LayerSoFar, layerSum, SumBefore, ChecksCoins}
 
 -- one layer's part is far from the end of a word of 64 bits
 pub times-small : (a k : ℕ) → a ≤ 7 → k < 4294967296 → a * k ≤ 30064771072
@@ -74,3 +81,18 @@ module _ (c cs : List ℕ) where
 
   pub coins-legal : length cs ≡ coinCount c → allBelow (primeOf c) cs ≡ true → needCoins c cs 0 ≡ 0
   coins-legal e w = rw (eq-eqb (length cs) (coinCount c) e, w) refl
+
+-- 1 to 9, then 11 and 12, as the two checks answer: a refusal of the coins, and none
+module _ (c input cs : List ℕ) {lists : Checked} (legal : lists ≡ Legal) (told : causeOf lists ≡ listsCause c input) where
+  none : listsCause c input ≡ 0
+  none = none-told legal told
+
+  circuit : LegalCircuit c
+  circuit = legal-lists c input none .circuit
+
+  module _ {coins : Checked} (checked : ChecksCoins c cs coins) where
+    pub coins-refused : {cause : Cause} → coins ≡ Refused cause → CoinsRefused c input cs cause
+    coins-refused e = record { lists = none; cause = refusal-told e (checked circuit) }
+
+    pub admitted : coins ≡ Legal → Admitted c input cs
+    admitted e = record { lists = none; coins = none-told e (checked circuit) }

@@ -1,12 +1,11 @@
 -- Laws of the line between two points: its coordinates, its first coordinates, and the loop that writes it word by word.
 -- Assumes nothing.
-use mathlib.Core.Path.{_≡_, refl, sym, ap, ap₂, _∙_}
+use mathlib.Core.Path.{_≡_, refl, sym, ap, _∙_}
 use mathlib.Core.List.{List, [], _∷_, append-nil, _++_}
 use Prim.Native.Nat.{ℕ, zero, suc, _+_, _≤_, _<_}
 use native.Mathlib.Omega.{arith}
-use lib.ListN.{length, take, getD, set, drop-of-length-le, length-set}
-use Rattle.lists.specs.Buffer.{over}
-use Rattle.lists.proofs.Buffer.{over-next, over-all}
+use lib.ListN.{length, take, getD, set, drop-of-length-le}
+use Rattle.lists.proofs.Storing.{Stored, next, start as stored-start, end as stored-end}
 use Rattle.algebra.specs.Numbers.{Numbers}
 use Rattle.sumcheck.specs.Summand.{linePoint}
 use Rattle.sumcheck.proofs.Message.{length-line}
@@ -30,21 +29,17 @@ module _ {C : Type 0} (N : Numbers C) where
 
   -- i coordinates stand at the front of a row of n
   pub record Drawn (n : ℕ) (u v : List C) (t : C) (line₀ line : List C) (i : ℕ) : Type 0 where
-    pub within : i ≤ n
     pub length-u : length u ≡ n
     pub length-v : length v ≡ n
     pub length-before : length line₀ ≡ n
-    pub length-now : length line ≡ n
-    pub drawn : line ≡ over (take i (linePoint N u v t)) line₀
+    pub drawn : Stored (linePoint N u v t) line₀ line i
 
   pub start : (n : ℕ) (u v : List C) (t : C) (line : List C) → length u ≡ n → length v ≡ n → length line ≡ n → Drawn n u v t line line 0
   start n u v t line eu ev e = record {
-    within = omega arith;
     length-u = eu;
     length-v = ev;
     length-before = e;
-    length-now = e;
-    drawn = refl;
+    drawn = stored-start (linePoint N u v t) line (omega (arith, length-line N n u v t eu ev));
   }
 
   pub step : (n : ℕ) (u v : List C) (t d x : C) (line₀ line : List C) (i : ℕ) → Drawn n u v t line₀ line i → i < n
@@ -53,16 +48,11 @@ module _ {C : Type 0} (N : Numbers C) where
   step n u v t d x line₀ line i h more e =
       let eu = h .length-u in
       let ev = h .length-v in
-      let e₀ = h .length-before in
-      let size : length (linePoint N u v t) ≡ n = length-line N n u v t eu ev in
       record {
-        within = omega arith;
         length-u = eu;
         length-v = ev;
-        length-before = e₀;
-        length-now = length-set line i x ∙ h .length-now;
-        drawn = ap₂ (λ (l : List C) (y : C). set l i y) (h .drawn) (e ∙ sym (getD-line i u v t d (omega arith) (omega arith)))
-            ∙ over-next (linePoint N u v t) line₀ i d (omega arith) (omega arith);
+        length-before = h .length-before;
+        drawn = next (h .drawn) d x (omega (arith, length-line N n u v t eu ev)) (e ∙ sym (getD-line i u v t d (omega arith) (omega arith)));
       }
 
   pub end : (n : ℕ) (u v : List C) (t : C) (line₀ line : List C) (i : ℕ) → Drawn n u v t line₀ line i → n ≤ i → line ≡ linePoint N u v t
@@ -70,5 +60,5 @@ module _ {C : Type 0} (N : Numbers C) where
       let e₀ = h .length-before in
       let whole = linePoint N u v t in
       let size : length whole ≡ n = length-line N n u v t (h .length-u) (h .length-v) in
-      h .drawn ∙ over-all whole line₀ i (omega arith)
+      stored-end (h .drawn) (omega arith)
       ∙ ap (λ (l : List C). whole ++ l) (drop-of-length-le line₀ {i = length whole} (omega arith)) ∙ append-nil whole

@@ -1,14 +1,14 @@
 -- A table with variables fixed, one after another, at its own front: the entries of a fold are made of two that are not yet written over.
 -- Assumes nothing.
-use mathlib.Core.Path.{_≡_, refl, sym, ap, ap₂, _∙_}
+use mathlib.Core.Path.{_≡_, sym, ap, ap₂, _∙_}
 use mathlib.Core.List.{List, [], _∷_, _++_}
 use Prim.Native.Nat.{ℕ, _+_, _/_, _≤_, _<_}
-use native.Mathlib.Numerals.{add-one}
 use native.Mathlib.Omega.{arith}
 use lib.ListN.{length, take, drop, getD, set}
-use lib.Seq.{length-take-le, take-suc, take-all}
+use lib.Seq.{length-take-le, take-all}
 use Rattle.lists.specs.Buffer.{over}
-use Rattle.lists.proofs.Buffer.{over-next, over-all, getD-over-after}
+use Rattle.lists.proofs.Steps.{take-up}
+use Rattle.lists.proofs.Storing.{Stored, kept, next, start as stored-start, end as stored-end}
 use Rattle.algebra.specs.Numbers.{Numbers}
 use Rattle.multilinear.specs.Extension.{between, fold}
 use Rattle.multilinear.specs.Tables.{folded}
@@ -21,32 +21,20 @@ module _ {C : Type 0} (N : Numbers C) (r : C) (t₀ : List C) where
   half = length t₀ / 2
 
   -- b entries of the fold stand
-  pub record Fold (t : List C) (b : ℕ) : Type 0 where
-    pub within : b ≤ half
-    pub written : t ≡ over (take b (fold N r t₀)) t₀
+  abbrev pub Fold : List C → ℕ → Type 0
+  Fold t b = Stored (fold N r t₀) t₀ t b
 
   pub start : Fold t₀ 0
-  start = record { within = omega arith; written = refl }
-
-  entry : (t : List C) (b j : ℕ) (d : C) → Fold t b → b ≤ j → getD t j d ≡ getD t₀ j d
-  entry t b j d h l =
-      let size : length (take b (fold N r t₀)) ≡ b =
-      length-take-le b (fold N r t₀) (omega (arith, length-fold N r t₀, h .within)) in
-      ap (λ (l : List C). getD l j d) (h .written) ∙ getD-over-after (take b (fold N r t₀)) t₀ j d (omega arith)
+  start = stored-start (fold N r t₀) t₀ (omega (arith, length-fold N r t₀))
 
   pub step : (t : List C) (b : ℕ) (d x : C) → Fold t b → b < half → x ≡ between N r (getD t b d) (getD t (half + b) d)
       → Fold (set t b x) (b + 1)
   step t b d x h more e =
-      let size = length-fold N r t₀ in
-      record {
-        within = omega arith;
-        written = ap₂ (λ (l : List C) (y : C). set l b y) (h .written)
-            (e ∙ ap₂ (between N r) (entry t b b d h (omega arith)) (entry t b (half + b) d h (omega arith)) ∙ sym (getD-fold N r t₀ b d more))
-            ∙ over-next (fold N r t₀) t₀ b d (omega arith) (omega arith);
-      }
+      next h d x (omega (arith, length-fold N r t₀))
+      (e ∙ ap₂ (between N r) (kept h b d (omega arith)) (kept h (half + b) d (omega arith)) ∙ sym (getD-fold N r t₀ b d more))
 
   pub end : (t : List C) (b : ℕ) → Fold t b → half ≤ b → t ≡ over (fold N r t₀) t₀
-  end t b h all = h .written ∙ over-all (fold N r t₀) t₀ b (omega (arith, length-fold N r t₀))
+  end t b h all = stored-end h (omega (arith, length-fold N r t₀))
 
 -- the first variables of vs fixed at the first i coordinates of a point, at the front of a table
 module _ {C : Type 0} (N : Numbers C) (point vs : List C) where
@@ -78,7 +66,7 @@ module _ {C : Type 0} (N : Numbers C) (point vs : List C) where
         holds = ap (λ (m : ℕ). take m (part ++ drop n l)) (sym halved) ∙ front-back l part (fold N r (take n l)) n e
             ∙ ap₂ (fold N) er (h .holds) ∙ sym (folded-one N (getD point i d) (folded N (take i point) vs))
             ∙ sym (folded-append N (take i point) (getD point i d ∷ []) vs)
-            ∙ ap (λ (xs : List C). folded N xs vs) (sym (take-suc point i d more) ∙ ap (λ (m : ℕ). take m point) (sym (add-one i)));
+            ∙ ap (λ (xs : List C). folded N xs vs) (sym (take-up point i d more));
       }
 
   pub all-fixed : (l : List C) (n i : ℕ) → Fixed l n i → length point ≤ i → take n l ≡ folded N point vs

@@ -7,9 +7,10 @@ use Prim.Native.Nat.{ℕ, suc, _+_, _-_, _*_, _/_, _^_, _≤_, _<_}
 use native.Mathlib.Nat.{zero-add, suc-add, sub-self, two-pow-succ}
 use native.Mathlib.Omega.{arith}
 use lib.ListN.{length, take, drop, getD, set, length-map, length-drop, length-append, take-append-drop, drop-of-length-le, List·getD-append}
-use lib.Seq.{length-take-le, getD-take, set-append-left, drop-cons, drop-drop, take-take}
+use lib.Seq.{length-take-le, getD-take, set-append-left, drop-drop, take-take}
 use Rattle.lists.specs.Buffer.{over}
-use Rattle.lists.proofs.Buffer.{over-next, over-all, length-over, getD-over-after}
+use Rattle.lists.proofs.Steps.{drop-down}
+use Rattle.lists.proofs.Storing.{Stored, kept, next, start as stored-start, end as stored-end}
 use Rattle.lists.proofs.Map.{getD-map-lt}
 use Rattle.algebra.specs.Numbers.{Numbers}
 use Rattle.multilinear.specs.Tables.{weights}
@@ -49,60 +50,44 @@ module _ {C : Type 0} (N : Numbers C) (z : C) (t₀ : List C) where
   length-high = length-map (take half t₀) (λ w. N .mul z w) ∙ length-front
 
   -- b entries of each half stand
-  abbrev lows : ℕ → List C
-  lows b = over (take b low) (take half t₀)
-
-  abbrev highs : ℕ → List C
-  highs b = over (take b high) (drop half t₀)
-
-  length-lows : (b : ℕ) → b ≤ half → length (lows b) ≡ half
-  length-lows b h =
-      let size : length (take b low) ≡ b = length-take-le b low (omega (arith, length-low)) in
-      length-over (take b low) (take half t₀) (omega (arith, length-front)) ∙ length-front
-
-  -- the entry that both are made of is not yet written over
-  entry : (b : ℕ) (d : C) → b < half → getD (lows b ++ highs b) b d ≡ getD t₀ b d
-  entry b d h =
-      let size : length (take b low) ≡ b = length-take-le b low (omega (arith, length-low)) in
-      List·getD-append (lows b) (highs b) d b (omega (arith, length-lows b (omega arith)))
-      ∙ getD-over-after (take b low) (take half t₀) b d (omega arith) ∙ getD-take half t₀ b d h
-
   pub record Spread (t : List C) (b : ℕ) : Type 0 where
-    pub within : b ≤ half
-    pub written : t ≡ lows b ++ highs b
+    pub lows : List C
+    pub highs : List C
+    pub written : t ≡ lows ++ highs
+    pub below : Stored low (take half t₀) lows b
+    pub above : Stored high (drop half t₀) highs b
 
   pub start : Spread t₀ 0
-  start = record { within = omega arith; written = sym (take-append-drop half t₀) }
+  start = record {
+    lows = take half t₀;
+    highs = drop half t₀;
+    written = sym (take-append-drop half t₀);
+    below = stored-start low (take half t₀) (omega (arith, length-low, length-front));
+    above = stored-start high (drop half t₀) (omega (arith, length-high, length-drop half t₀));
+  }
 
-  module _ (b : ℕ) (d : C) (h : b < half) where
-    scaled : (c : C) → N .mul c (getD t₀ b d) ≡ getD (map (λ w. N .mul c w) (take half t₀)) b d
-    scaled c =
-        sym (getD-map-lt (λ w. N .mul c w) (take half t₀) b d d (omega (arith, length-front)) ∙ ap (N .mul c) (getD-take half t₀ b d h))
-
-    next-low : set (lows b) b (N .mul (N .sub (N .𝟙) z) (getD t₀ b d)) ≡ lows (b + 1)
-    next-low =
-        ap (set (lows b) b) (scaled (N .sub (N .𝟙) z))
-        ∙ over-next low (take half t₀) b d (omega (arith, length-low)) (omega (arith, length-low, length-front))
-
-    next-high : set (highs b) b (N .mul z (getD t₀ b d)) ≡ highs (b + 1)
-    next-high =
-        ap (set (highs b) b) (scaled z)
-        ∙ over-next high (drop half t₀) b d (omega (arith, length-high)) (omega (arith, length-high, length-drop half t₀))
+  scaled : (b : ℕ) (c d : C) → b < half → N .mul c (getD t₀ b d) ≡ getD (map (λ w. N .mul c w) (take half t₀)) b d
+  scaled b c d h =
+      sym (getD-map-lt (λ w. N .mul c w) (take half t₀) b d d (omega (arith, length-front)) ∙ ap (N .mul c) (getD-take half t₀ b d h))
 
   pub step : (t : List C) (b : ℕ) (d x y : C) → Spread t b → b < half → x ≡ N .mul z (getD t b d)
       → y ≡ N .mul (N .sub (N .𝟙) z) (getD t b d) → Spread (set (set t (half + b) x) b y) (b + 1)
   step t b d x y h more ex ey =
-      let size : length (lows b) ≡ half = length-lows b (omega arith) in
-      let same : getD t b d ≡ getD t₀ b d = ap (λ (l : List C). getD l b d) (h .written) ∙ entry b d more in
-      let ex′ : x ≡ N .mul z (getD t₀ b d) = ex ∙ ap (N .mul z) same in
-      let ey′ : y ≡ N .mul (N .sub (N .𝟙) z) (getD t₀ b d) = ey ∙ ap (N .mul (N .sub (N .𝟙) z)) same in
+      let lows = h .lows in
+      let highs = h .highs in
+      let size : length lows ≡ half = h .below .size ∙ length-front in
+      let same : getD t b d ≡ getD t₀ b d =
+      ap (λ (l : List C). getD l b d) (h .written) ∙ List·getD-append lows highs d b (omega arith)
+      ∙ kept (h .below) b d (omega arith) ∙ getD-take half t₀ b d more in
       record {
-        within = omega arith;
+        lows = set lows b y;
+        highs = set highs b x;
         written = ap (λ (l : List C). set (set l (half + b) x) b y) (h .written)
-            ∙ ap (λ (n : ℕ). set (set (lows b ++ highs b) (n + b) x) b y) (sym size)
-            ∙ ap (λ (l : List C). set l b y) (set-append-add (lows b) (highs b) b x)
-            ∙ set-append-left (lows b) (set (highs b) b x) b y (omega arith)
-            ∙ ap₂ (λ (l m : List C). l ++ m) (ap (set (lows b) b) ey′ ∙ next-low b d more) (ap (set (highs b) b) ex′ ∙ next-high b d more);
+            ∙ ap (λ (n : ℕ). set (set (lows ++ highs) (n + b) x) b y) (sym size)
+            ∙ ap (λ (l : List C). set l b y) (set-append-add lows highs b x)
+            ∙ set-append-left lows (set highs b x) b y (omega arith);
+        below = next (h .below) d y (omega (arith, length-low)) (ey ∙ ap (N .mul (N .sub (N .𝟙) z)) same ∙ scaled b (N .sub (N .𝟙) z) d more);
+        above = next (h .above) d x (omega (arith, length-high)) (ex ∙ ap (N .mul z) same ∙ scaled b z d more);
       }
 
   pub end : (t : List C) (b : ℕ) → Spread t b → half ≤ b → t ≡ over (spread N z (take half t₀)) t₀
@@ -113,7 +98,7 @@ module _ {C : Type 0} (N : Numbers C) (z : C) (t₀ : List C) where
       let none : drop (length low) (take half t₀) ≡ [] = drop-of-length-le (take half t₀) {i = length low} (omega (arith, length-front)) in
       let far : half + length high ≡ length (low ++ high) = sym (length-append low high ∙ ap (λ (n : ℕ). n + length high) el) in
       h .written
-      ∙ ap₂ (λ (l m : List C). l ++ m) (over-all low (take half t₀) b (omega arith)) (over-all high (drop half t₀) b (omega arith))
+      ∙ ap₂ (λ (l m : List C). l ++ m) (stored-end (h .below) (omega arith)) (stored-end (h .above) (omega arith))
       ∙ ap₂ (λ (l m : List C). (low ++ l) ++ (high ++ m)) none (drop-drop (length high) half t₀ ∙ ap (λ (n : ℕ). drop n t₀) far)
       ∙ ap (λ (l : List C). l ++ (high ++ drop (length (low ++ high)) t₀)) (append-nil low)
       ∙ sym (append-assoc low high (drop (length (low ++ high)) t₀))
@@ -156,7 +141,6 @@ module _ {C : Type 0} (N : Numbers C) (point : List C) where
       let fits = room l n left h more in
       let size = h .size in
       let reached = h .reached in
-      let again : suc (left - 1) ≡ left = omega arith in
       let longer : length point - (left - 1) ≡ suc (length point - left) = omega arith in
       let twice : 2 * n ≡ 2 ^ (length point - (left - 1)) =
       ap (λ (m : ℕ). 2 * m) (h .count) ∙ sym (ap (λ (k : ℕ). 2 ^ k) longer ∙ two-pow-succ (length point - left) ∙ omega arith) in
@@ -165,8 +149,7 @@ module _ {C : Type 0} (N : Numbers C) (point : List C) where
       ap (λ (m : ℕ). take m (take (2 * n) l)) lent ∙ take-take n (2 * n) l (omega arith) ∙ h .holds in
       let ws : List C = spread N z (take (length (take (2 * n) l) / 2) (take (2 * n) l)) in
       let made : ws ≡ weights N (drop (left - 1) point) =
-      ap₂ (spread N) ez before ∙ sym (ap (weights N) (drop-cons point (left - 1) d (omega arith)
-      ∙ ap (λ (k : ℕ). getD point (left - 1) d ∷ drop k point) again) ∙ weights-more N (getD point (left - 1) d) (drop left point)) in
+      ap₂ (spread N) ez before ∙ sym (ap (weights N) (drop-down point left d more reached) ∙ weights-more N (getD point (left - 1) d) (drop left point)) in
       let all : length ws ≡ 2 * n =
       ap length made ∙ length-weights N (drop (left - 1) point) ∙ ap (λ (k : ℕ). 2 ^ k) (length-drop (left - 1) point) ∙ sym twice in
       record {

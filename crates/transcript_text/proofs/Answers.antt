@@ -7,20 +7,20 @@ use mathlib.Core.List.{List}
 use native.Mathlib.Omega.{arith}
 use lib.Dec.{eqb, leb}
 use lib.ListN.{length, take, length-take}
-use borrow.Author.Tests.{le-leb, eqb-true}
+use borrow.Author.Tests.{le-leb}
 use Rattle.lists.specs.Buffer.{over}
 use Rattle.lists.proofs.Buffer.{take-over}
 use Rattle.refusal.specs.Order.{need, first}
-use Rattle.refusal.proofs.Order.{first-none, need-none}
-use Rattle.circuit.specs.Circuit.{primeOf, coinCount, messageWords}
-use Rattle.circuit.specs.Legal.{allBelow, listsCause}
+use Rattle.refusal.proofs.Order.{first-none}
+use Rattle.circuit.specs.Circuit.{messageWords}
+use Rattle.circuit.specs.Legal.{listsCause}
 use Rattle.circuit.specs.Sized.{LegalCircuit}
 use Rattle.circuit.specs.Values.{value}
-use Rattle.circuit.proofs.Layers.{all-below}
 use Rattle.circuit.proofs.Loading.{legal-lists}
 use Rattle.protocol.specs.Check.{needCoins}
 use Rattle.circuit.proofs.Largest.{in-limits}
 use Rattle.protocol.specs.Prove.{proved, refused, proofOf, honest, transcript, proveCause, proveAnswer, proveBuffer}
+use Rattle.protocol.proofs.Coins.{coin-list}
 use Rattle.protocol.proofs.Check.{length-transcript}
 use Rattle.protocol.proofs.Theorems.{honest-fits}
 use Rattle.printing.specs.Printed.{refusedText, answerText}
@@ -39,12 +39,9 @@ module _ (c input cs : List ℕ) where
   pub whole : listsRefusal c input cs ≡ 0 → Whole
   whole e =
       let lists = first-none (listsCause c input) (needCoins c cs 0) e in
-      let number = need-none (eqb (length cs) (coinCount c)) 10 _ (lists .1) in
-      let small = need-none (allBelow (primeOf c) cs) 11 _ (number .1) in
       record {
         legal = legal-lists c input (lists .0) .circuit;
-        words = length-transcript c (honest c input) (honest-fits c input (lists .0)) cs
-            (eqb-true (length cs) (coinCount c) (number .0), all-below (primeOf c) cs (small .0));
+        words = length-transcript c (honest c input) (honest-fits c input (lists .0)) cs (coin-list c cs 0 (lists .1));
       }
 
   -- what a proof wrote is the transcript

@@ -8,7 +8,7 @@ use native.Mathlib.Omega.{arith}
 use lib.ListN.{length, take, drop}
 use lib.Seq.{drop-drop}
 use Rattle.lists.specs.Count.{sum}
-use Rattle.lists.proofs.Count.{sum-cons}
+use Rattle.lists.proofs.Count.{sum-there, sum-passed}
 use Rattle.circuit.specs.Circuit.{depth, exponentAt, messageWords}
 use Rattle.circuit.specs.Sized.{LegalCircuit}
 use Rattle.protocol.specs.Rounds.{Place, place, rounds, layerStart}
@@ -73,9 +73,7 @@ module _ (c ms before : List ℕ) where
           left = loops.round-opened c legal (Left text at to) layer round (b .coins) (b .stands) more
 
           pub words-there : at + messageLength c (place layer round) ≤ length ms
-          words-there =
-              let more = sum-cons (messageLength c (place layer round)) (map (messageLength c) (before-round c layer (round + 1))) in
-              omega (arith, left .counted, more)
+          words-there = sum-there (messageLength c) (place layer round) (before-round c layer (round + 1)) at (length ms) (left .counted)
 
           pub round-done : (w : ℕ) → w ≡ messageLength c (place layer round) → (part : List ℕ) (n : ℕ)
               → Wrote (lineText (wordOf c (place layer round)) (take (at + w - at) (drop at ms)))
@@ -101,6 +99,6 @@ module _ (c ms before : List ℕ) where
                           append-assoc (left .done) line (messagesText c rest (drop (at + w) ms))
                           ∙ ap₂ (λ (l : List ℕ) (ws : List ℕ). left .done ++ (l ++ messagesText c rest ws)) same behind
                           ∙ left .whole;
-                      counted = omega (arith, left .counted, e, sum-cons len (map (messageLength c) rest));
+                      counted = rw e (sum-passed (messageLength c) (place layer round) rest at (length ms) (left .counted));
                     });
               }

@@ -8,7 +8,7 @@ use lib.ListN.{length, take, drop, getD}
 use lib.Seq.{take-all}
 use Rattle.refusal.specs.Number.{numberOf}
 use Rattle.refusal.specs.declared.Cause.{Cause}
-use Rattle.refusal.proofs.Order.{numbered-suc}
+use Rattle.refusal.proofs.Order.{refused-by}
 use Rattle.protocol.specs.Check.{checkAnswer}
 use Rattle.text.specs.Lines.{ascii}
 use Rattle.text.proofs.Lengths.{line-short}
@@ -30,9 +30,7 @@ printed-checked c input cs (y ∷ ms) h =
     ap (λ (ws : List ℕ). answerText (checkAnswer c input y cs ws) acceptedText) (take-all (length (y ∷ ms) - 1) ms (omega arith))
 
 pub printed-cause : (cause : Cause) → refusedText (numberOf cause) ≡ answerText (numberOf cause) acceptedText
-printed-cause cause =
-    let s = numbered-suc cause in
-    rw (s .1) refl
+printed-cause cause = refused-by (λ n. answerText n acceptedText) refusedText (λ n. refl) cause (numberOf cause) refl
 
 pub lists-short : (c input cs ts : List ℕ) → length (listsText c input cs ts) ≤ maxLine
 unfolding listsText

@@ -7,7 +7,6 @@ use native.Mathlib.Omega.{arith}
 use lib.ListN.{length, take, drop, getD}
 use Rattle.refusal.specs.Number.{numberOf}
 use Rattle.refusal.specs.declared.Cause.{Cause}
-use Rattle.refusal.proofs.Order.{numbered-suc}
 use Rattle.circuit.specs.Circuit.{depth, outputExponent, exponentAt}
 use Rattle.circuit.specs.Sized.{LegalCircuit}
 use Rattle.circuit.proofs.Loading.{legal-lists}
@@ -100,6 +99,5 @@ module _ (c input : List ℕ) (y : ℕ) (ms cs : List ℕ) where
             → numberOf cause ≡ walkFrom c input y cs ms
         unfolding descent
         round-refuses cause e =
-            let s = numbered-suc cause in
-            s .1 ∙ left-refused (descent c) (inputAgrees c input) (rounds c) (outputExponent c) y ms cs _ _ n at claim opened (s .0)
-            (ap (judge c (place layer round) (take n cs) claim) (sym same-message) ∙ sym e ∙ s .1)
+            left-refused (descent c) (inputAgrees c input) (rounds c) (outputExponent c) y ms cs _ _ n at claim opened cause
+            (e ∙ ap (judge c (place layer round) (take n cs) claim) same-message)

@@ -1,15 +1,18 @@
 -- A walk in a loop: before each round what is left of it, from the coins and words left, is the whole walk.
 -- Assumes nothing.
-use Prim.Native.Nat.{ℕ, suc, _+_, _≤_, _<_}
+use Prim.Native.Nat.{ℕ, _+_, _≤_, _<_}
 use mathlib.Core.Path.{_≡_, refl, sym, ap, ap₂, _∙_}
-use mathlib.Core.List.{List, [], _∷_, _++_, map}
-use native.Mathlib.Numerals.{add-one}
+use mathlib.Core.List.{List, [], _∷_, map}
 use native.Mathlib.Omega.{arith}
 use lib.ListN.{length, take, drop, getD}
-use lib.Seq.{take-suc, take-all, drop-cons, drop-drop}
+use lib.Seq.{take-all, drop-drop}
 use Rattle.lists.specs.Count.{sum}
-use Rattle.lists.proofs.Count.{sum-cons}
+use Rattle.lists.proofs.Count.{sum-there, sum-passed}
+use Rattle.lists.proofs.Steps.{take-up, drop-up}
+use Rattle.refusal.specs.Number.{numberOf}
 use Rattle.refusal.specs.Order.{first}
+use Rattle.refusal.specs.declared.Cause.{Cause}
+use Rattle.refusal.proofs.Order.{refused-first, legal-first}
 use Rattle.walk.specs.Game.{Game, Comparison, finalCause, walk}
 
 -- so many coins come before any message
@@ -20,7 +23,7 @@ module _ {R : Type 0} (g : Game R) (final : Comparison) (rounds : List R) (first
   -- these rounds are left, after n coins and `at` message words
   pub record Left (rest : List R) (n at claim : ℕ) : Type 0 where
     pub coins : length cs ≡ n + length rest
-    pub words : length ms ≡ at + sum (map (g .len) rest)
+    pub words : at + sum (map (g .len) rest) ≡ length ms
     pub same : walk g final rest (take n cs) claim (drop at ms) (drop n cs) ≡ whole
 
   pub left-all : length cs ≡ first-coins + length rounds → length ms ≡ sum (map (g .len) rounds) → Left rounds first-coins 0 y
@@ -31,7 +34,7 @@ module _ {R : Type 0} (g : Game R) (final : Comparison) (rounds : List R) (first
     left-coin = omega (arith, h .coins)
 
     pub left-words : at + g .len r ≤ length ms
-    left-words = omega (arith, h .words, sum-cons (g .len r) (map (g .len) rest))
+    left-words = sum-there (g .len) r rest at (length ms) (h .words)
 
     abbrev message : List ℕ
     message = take (g .len r) (drop at ms)
@@ -43,20 +46,19 @@ module _ {R : Type 0} (g : Game R) (final : Comparison) (rounds : List R) (first
         ≡ first (g .judge r (take n cs) claim message) later
     unfolding walk
     one-round =
-        let past : take n cs ++ (getD cs n 0 ∷ []) ≡ take (n + 1) cs = sym (take-suc cs n 0 left-coin) ∙ ap (λ (i : ℕ). take i cs) (sym (add-one n)) in
         let back : drop (g .len r) (drop at ms) ≡ drop (at + g .len r) ms = drop-drop (g .len r) at ms in
-        ap (λ (l : List ℕ). walk g final (r ∷ rest) (take n cs) claim (drop at ms) l) (drop-cons cs n 0 left-coin ∙ ap (λ (i : ℕ). getD cs n 0 ∷ drop i cs) (sym (add-one n)))
-        ∙ ap₂ (λ (a b : List ℕ). first (g .judge r (take n cs) claim message) (walk g final rest a (g .next message (getD cs n 0)) b (drop (n + 1) cs))) past back
+        ap (λ (l : List ℕ). walk g final (r ∷ rest) (take n cs) claim (drop at ms) l) (drop-up cs n 0 left-coin)
+        ∙ ap₂ (λ (a b : List ℕ). first (g .judge r (take n cs) claim message) (walk g final rest a (g .next message (getD cs n 0)) b (drop (n + 1) cs))) (sym (take-up cs n 0 left-coin)) back
 
     pub left-next : g .judge r (take n cs) claim message ≡ 0 → Left rest (n + 1) (at + g .len r) (g .next message (getD cs n 0))
     left-next e = record {
       coins = omega (arith, h .coins);
-      words = omega (arith, h .words, sum-cons (g .len r) (map (g .len) rest));
-      same = sym (one-round ∙ ap (λ (i : ℕ). first i later) e) ∙ h .same;
+      words = sum-passed (g .len) r rest at (length ms) (h .words);
+      same = sym (one-round ∙ legal-first (g .judge r (take n cs) claim message) later e) ∙ h .same;
     }
 
-    pub left-refused : (cause : ℕ) → g .judge r (take n cs) claim message ≡ suc cause → suc cause ≡ whole
-    left-refused cause e = sym (one-round ∙ ap (λ (i : ℕ). first i later) e) ∙ h .same
+    pub left-refused : (cause : Cause) → numberOf cause ≡ g .judge r (take n cs) claim message → numberOf cause ≡ whole
+    left-refused cause e = sym (one-round ∙ refused-first cause (g .judge r (take n cs) claim message) later e) ∙ h .same
 
   pub left-none : (n at claim : ℕ) → Left [] n at claim → finalCause (final cs claim) ≡ whole
   unfolding walk

@@ -3,10 +3,10 @@
 use Prim.Native.Nat.{ℕ, _+_, _≤_, _<_}
 use mathlib.Core.Path.{_≡_, refl, sym, ap, _∙_}
 use mathlib.Core.List.{List, [], _∷_, _++_, flatten}
-use native.Mathlib.Numerals.{add-one}
 use native.Mathlib.Omega.{arith}
-use lib.ListN.{length, length-append, length-drop, take, drop, getD}
-use lib.Seq.{take-suc, drop-cons, drop-drop, drop-append-seam, take-append-seam, take-add}
+use lib.ListN.{length, length-append, length-drop, take, drop}
+use lib.Seq.{drop-drop, drop-append-seam, take-append-seam, take-add}
+use Rattle.lists.proofs.Steps.{take-up, drop-up}
 use Rattle.walk.specs.Rule.{Rule, said}
 
 -- so many coins come before any message
@@ -41,10 +41,9 @@ module _ {R : Type 0} (rule : Rule R) (rounds : List R) (first-coins : ℕ) (cs 
     unfolding said flatten
     one-round =
         let more : n < length cs = omega (arith, h .coins) in
-        let past : take n cs ++ (getD cs n 0 ∷ []) ≡ take (n + 1) cs = sym (take-suc cs n 0 more) ∙ ap (λ (i : ℕ). take i cs) (sym (add-one n)) in
         h .left
-        ∙ ap (λ (l : List ℕ). flatten (said rule (r ∷ rest) (take n cs) l)) (drop-cons cs n 0 more ∙ ap (λ (i : ℕ). getD cs n 0 ∷ drop i cs) (sym (add-one n)))
-        ∙ ap (λ (l : List ℕ). message ++ flatten (said rule rest l (drop (n + 1) cs))) past
+        ∙ ap (λ (l : List ℕ). flatten (said rule (r ∷ rest) (take n cs) l)) (drop-up cs n 0 more)
+        ∙ ap (λ (l : List ℕ). message ++ flatten (said rule rest l (drop (n + 1) cs))) (sym (take-up cs n 0 more))
 
     pub saying-room : at + length message ≤ length whole
     saying-room =

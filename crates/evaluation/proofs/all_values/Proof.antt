@@ -1,17 +1,16 @@
 -- `all_values` meets its contract: before turn i the array holds all values from layer D - i on.
 -- Assumes nothing.
 use Prim.Native.Nat.{ℕ, suc, _+_, _-_, _*_, _^_, _≤_, _<_}
-use mathlib.Core.Path.{_≡_, refl, ap, _∙_}
+use mathlib.Core.Path.{_≡_, ap, _∙_}
 use mathlib.Core.List.{List}
 use native.Mathlib.Omega.{arith}
 use lib.ListN.{length, take, drop}
-use Rattle.lists.proofs.Buffer.{rest-lent}
 use Rattle.circuit.specs.Limits.{maxValues}
 use Rattle.circuit.specs.Circuit.{exponentAt, widthOf}
 use Rattle.circuit.specs.Circuit.{depth as depthOf}
 use Rattle.circuit.specs.Sized.{LegalCircuit}
 use Rattle.circuit.proofs.Sized.{exponent-width, layer-of}
-use Rattle.circuit.proofs.Gates.{gatesFrom}
+use Rattle.circuit.proofs.Gates.{gatesFrom, gates-lent}
 use Rattle.circuit.proofs.Loading.{legal-lists}
 use Rattle.circuit.proofs.Layers.{prime-modulus}
 use Rattle.evaluation.proofs.Evaluating.{Filled, from-layer, input-fits, filled-start, turn-sizes, turn-room, turn-fillable, turn-filled, filled-all}
@@ -79,10 +78,10 @@ abbrev gates : Turn → List ℕ
 gates t = known t .all-gates .result .now
 
 rest : (t : Turn) → take (length (gates t) - 3 * from t) (drop (3 * from t) (gates t)) ≡ gatesFrom (list (known t)) (from t)
-rest t = rest-lent (gates t) (3 * from t) (length (gates t)) refl ∙ ap (drop (3 * from t)) (known t .all-gates .ensures)
+rest t = gates-lent (list (known t)) (gates t) (from t) (known t .all-gates .ensures)
 
 room : (t : Turn) → 3 * from t ≤ length (gates t)
-room t = omega (arith, turn-room _ _ (start (known t) .pre .0) _ _ _ _ (inside t) (filled t) (wide t), ap length (known t .all-gates .ensures))
+room t = turn-room _ _ (start (known t) .pre .0) _ _ _ _ (inside t) (filled t) (wide t) (gates t) (known t .all-gates .ensures)
 
 prime-requires : tie.Need-prime-requires Inv-loop μ-loop
 prime-requires c κs = search needs

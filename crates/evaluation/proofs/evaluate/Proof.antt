@@ -7,7 +7,7 @@ use native.Mathlib.Omega.{arith}
 use lib.ListN.{length, take}
 use lib.Seq.{length-take-le}
 use Rattle.lists.proofs.Buffer.{over-whole}
-use Rattle.refusal.specs.Number.{causeOf}
+use Rattle.refusal.proofs.Order.{refusal-told, none-told}
 use Rattle.circuit.specs.Limits.{maxValues}
 use Rattle.circuit.specs.Circuit.{depth, gatesBefore, valueCount}
 use Rattle.circuit.specs.Legal.{listsCause}
@@ -24,7 +24,7 @@ abbrev start : tie.After-gates-before → tie.Start
 start g = g .before .before .before .before .before .before .before .before
 
 legal : (g : tie.After-gates-before) → listsCause (start g .args .circuit .now) (start g .args .input .now) ≡ 0
-legal g = sym (g .before .before .before .before .check-lists .ensures) ∙ ap causeOf (g .before .before .enum-told .given .1)
+legal g = none-told (g .before .before .enum-told .given .1) (g .before .before .before .before .check-lists .ensures)
 
 place : (g : tie.After-gates-before) → g .gates-before .result ≡ gatesBefore (start g .args .circuit .now) (depth (start g .args .circuit .now))
 place g =
@@ -52,7 +52,7 @@ front v = length-take-le _ _ (omega (arith, few (counted v), v .all-values .ensu
 returns : tie.Need-returns
 returns c =
     let told = c .before .checked .given in
-    left-lists _ _ _ (told .0 .0) (sym (ap causeOf (told .1)) ∙ c .before .before .before .check-lists .ensures)
+    left-lists _ _ _ (told .0 .0) (refusal-told (told .1) (c .before .before .before .check-lists .ensures))
 
 add-total : tie.Need-add-total
 add-total c = let most = few c in omega arith

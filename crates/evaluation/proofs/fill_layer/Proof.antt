@@ -1,21 +1,16 @@
 -- `fill_layer` meets its contract: i values stand over the front, and the next layer's are untouched behind them.
 -- Assumes nothing.
-use Prim.Native.Nat.{ℕ, _+_, _-_, _*_, _≤_, _<_}
-use mathlib.Core.Path.{_≡_, _∙_}
+use Prim.Native.Nat.{ℕ, _+_, _-_, _*_, _<_}
 use native.Mathlib.Omega.{arith}
-use lib.ListN.{length, getD, take, length-set}
-use Rattle.lists.specs.Buffer.{over}
-use Rattle.lists.proofs.Buffer.{over-all}
-use Rattle.field.specs.Modulus.{modulus, numbers}
-use Rattle.evaluation.specs.Layer.{layerValues}
-use Rattle.evaluation.proofs.Filling.{length-layer, fill-step, wires-in}
+use lib.ListN.{length, getD}
+use Rattle.field.specs.Modulus.{modulus}
+use Rattle.evaluation.proofs.Filling.{LayerStored, layer-start, layer-step, layer-end, wires-in}
 use borrow.Author.Needs.{needs}
 use Rattle.evaluation.proofs.fill_layer.Statement.{statement}
 use Rattle.evaluation.proofs.fill_layer.Tie as tie
 
 abbrev Inv-loop : tie.InvT-loop
-Inv-loop f gates count values₀ i₀ values i =
-    (i ≤ count) × (values ≡ over (take i (layerValues (numbers f) count gates values₀)) values₀) × (length values ≡ length values₀)
+Inv-loop f gates count values₀ i₀ values i = LayerStored (modulus f) count gates values₀ values i
 
 abbrev μ-loop : tie.MeasureT-loop
 μ-loop f gates count values₀ i₀ values i = count - i
@@ -34,10 +29,10 @@ wires : (t : Turn) → (wire t 1 < length (t .before .loop .values)) × (wire t 
 wires t =
     let a = start t .args in
     let w = wires-in (a .count) (length (a .values .now)) (a .count) (t .before .loop .i) (a .gates .now) (start t .pre .wired) (t .loop-test .taken) in
-    (omega (arith, w .0, t .before .loop .inv .2), omega (arith, w .1, t .before .loop .inv .2))
+    (omega (arith, w .0, t .before .loop .inv .size), omega (arith, w .1, t .before .loop .inv .size))
 
 loop-holds : tie.Need-loop-holds Inv-loop μ-loop
-loop-holds c = search needs
+loop-holds c = layer-start _ _ _ _ (search needs)
 
 mul-g : tie.Need-mul-g Inv-loop μ-loop
 mul-g c = search needs
@@ -108,23 +103,13 @@ loop-less c = search needs
 loop-again : tie.Need-loop-again Inv-loop μ-loop
 loop-again c =
     let t = c .before .before .before .before .before .before in
-    let a = start t .args in
-    let at = t .before .loop in (
-      search needs,
-      fill-step (modulus (a .f)) (a .count) (a .gates .now) (a .values .now) (at .values) (at .i) (c .gate-value .result) (t .loop-test .taken)
-          (start t .pre .room) (at .inv .1) (c .gate-value .ensures),
-      length-set (at .values) (at .i) (c .gate-value .result) ∙ at .inv .2,
-    )
+    layer-step _ _ _ _ _ (t .before .loop .i) (t .before .loop .inv) _ (t .loop-test .taken) (c .gate-value .ensures)
 
 same-length : tie.Need-same-length Inv-loop μ-loop
 same-length c = search needs
 
 returns : tie.Need-returns Inv-loop μ-loop
-returns c =
-    let a = c .before .before .before .before .args in
-    let layer = layerValues (numbers (a .f)) (a .count) (a .gates .now) (a .values .now) in
-    c .before .loop .inv .1
-    ∙ over-all layer (a .values .now) (c .before .loop .i) (omega (arith, length-layer (numbers (a .f)) (a .count) (a .gates .now) (a .values .now)))
+returns c = layer-end _ _ _ _ _ (c .before .loop .i) (c .before .loop .inv) (search needs)
 
 pub fill-layer-spec : {M : Type 1} → statement M
 fill-layer-spec =

@@ -4,8 +4,7 @@ use Prim.Native.Nat.{ℕ, _≤_, _-_, _*_}
 use mathlib.Core.Path.{_≡_, sym, ap, _∙_}
 use native.Mathlib.Nat.{sub-zero}
 use lib.ListN.{drop}
-use Rattle.refusal.specs.Number.{causeOf}
-use Rattle.refusal.proofs.Order.{refused-first, legal-first}
+use Rattle.refusal.proofs.Order.{refusal-told, none-told, refused-first, legal-first}
 use Rattle.circuit.specs.Circuit.{gatesOf}
 use Rattle.circuit.specs.Legal.{gatesCause}
 use Rattle.circuit.proofs.Legal.{gates-at, gates-end}
@@ -65,7 +64,7 @@ returns c =
     let a = at .before .before .args in
     let checked = told .checked .given in
     sym (at .loop .inv .1 ∙ gates-at (a .next) (a .count) (at .loop .i) (a .gates .now) (search needs)
-    ∙ refused-first (checked .0 .0) _ _ (sym (ap causeOf (checked .1)) ∙ told .before .before .check-gate .ensures))
+    ∙ refused-first (checked .0 .0) _ _ (refusal-told (checked .1) (told .before .before .check-gate .ensures)))
 
 enum-told : tie.Need-enum-told Inv-loop μ-loop
 enum-told c = search needs
@@ -82,7 +81,7 @@ loop-again c =
     let a = at .before .before .args in (
       search needs,
       at .loop .inv .1 ∙ gates-at (a .next) (a .count) (at .loop .i) (a .gates .now) (search needs)
-          ∙ legal-first _ _ (sym (ap causeOf (c .enum-told .given .1)) ∙ c .before .before .check-gate .ensures),
+          ∙ legal-first _ _ (none-told (c .enum-told .given .1) (c .before .before .check-gate .ensures)),
     )
 
 returns-2 : tie.Need-returns-2 Inv-loop μ-loop

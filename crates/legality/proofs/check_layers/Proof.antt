@@ -1,16 +1,15 @@
 -- `check_layers` meets its contract: what is left from a layer on decides as all the layers do.
 -- Assumes nothing.
 use Prim.Native.Nat.{ℕ, _+_, _-_, _*_, _^_, _≤_, _<_}
-use mathlib.Core.Path.{_≡_, refl, sym, ap, _∙_}
+use mathlib.Core.Path.{_≡_, sym, ap, _∙_}
 use mathlib.Core.List.{List}
 use native.Mathlib.Omega.{arith}
 use lib.ListN.{length, take, drop}
-use Rattle.lists.proofs.Buffer.{rest-lent}
-use Rattle.refusal.specs.Number.{causeOf}
+use Rattle.refusal.proofs.Order.{refusal-told, none-told}
 use Rattle.circuit.specs.Limits.{maxGates}
 use Rattle.circuit.specs.Circuit.{depth, exponentAt, widthOf}
 use Rattle.circuit.proofs.Sized.{exponent-width, exponent-next}
-use Rattle.circuit.proofs.Gates.{gatesFrom}
+use Rattle.circuit.proofs.Gates.{gatesFrom, gates-lent}
 use Rattle.legality.proofs.Checking.{BeforeLayer, checks-start, layer-room, layer-there, layer-few, layer-refused, layer-legal, checks-end}
 use borrow.Author.Needs.{needs}
 use Rattle.legality.proofs.check_layers.Statement.{statement}
@@ -52,10 +51,10 @@ abbrev gates : Turn → List ℕ
 gates t = parts t .all-gates .result .now
 
 rest : (t : Turn) → take (length (gates t) - 3 * at t .loop .from) (drop (3 * at t .loop .from) (gates t)) ≡ gatesFrom (list t) (at t .loop .from)
-rest t = rest-lent (gates t) (3 * at t .loop .from) (length (gates t)) refl ∙ ap (drop (3 * at t .loop .from)) (parts t .all-gates .ensures)
+rest t = gates-lent (list t) (gates t) (at t .loop .from) (parts t .all-gates .ensures)
 
 room : (t : Turn) → 3 * at t .loop .from ≤ length (gates t)
-room t = omega (arith, layer-room _ (start t .pre) _ _ _ (at t .loop .inv .1) (inside t), ap length (parts t .all-gates .ensures))
+room t = layer-room _ (start t .pre) _ _ _ (at t .loop .inv .1) (inside t) (gates t) (parts t .all-gates .ensures)
 
 few : (t : Turn) → at t .loop .from + at t .loop .count ≤ maxGates
 few t = layer-few _ (start t .pre) _ _ _ (at t .loop .inv .1) (inside t)
@@ -118,7 +117,7 @@ returns c =
     let t = done .before .before in
     let checked = told .checked .given in
     sym (layer-refused _ (start t .pre) _ _ _ (at t .loop .inv .1) (inside t) _ (next t) (checked .0 .0)
-    (sym (ap causeOf (checked .1)) ∙ rw (rest t) at (done .check-gates .ensures)))
+    (refusal-told (checked .1) (rw (rest t) at (done .check-gates .ensures))))
 
 enum-told : tie.Need-enum-told Inv-loop μ-loop
 enum-told c = search needs
@@ -138,7 +137,7 @@ loop-again c =
     let t = done .before .before in (
       at t .loop .inv .0,
       layer-legal _ (start t .pre) _ _ _ (at t .loop .inv .1) (inside t) _ (next t)
-          (sym (rw (rest t) at (done .check-gates .ensures)) ∙ ap causeOf (c .enum-told .given .1)),
+          (none-told (c .enum-told .given .1) (rw (rest t) at (done .check-gates .ensures))),
     )
 
 returns-2 : tie.Need-returns-2 Inv-loop μ-loop

@@ -3,7 +3,7 @@
 use Prim.Native.Nat.{ℕ}
 use mathlib.Core.Path.{_≡_, sym, ap, _∙_}
 use lib.ListN.{length}
-use Rattle.refusal.specs.Number.{causeOf}
+use Rattle.refusal.proofs.Order.{refusal-told, none-told}
 use Rattle.circuit.specs.Circuit.{primeOf, inputCount}
 use Rattle.circuit.specs.Legal.{allBelow, loadAnswer}
 use Rattle.circuit.proofs.Loading.{not-true, not-false, legal-circuit, lists-load, lists-count, lists-word, lists-legal}
@@ -16,7 +16,7 @@ abbrev start : tie.After-enum-told → tie.Start
 start t = t .before .before .before .before .before
 
 legal : (t : tie.After-enum-told) → loadAnswer (start t .args .circuit .now) ≡ 0
-legal t = sym (t .before .before .load .ensures) ∙ ap causeOf (t .enum-told .given .1)
+legal t = none-told (t .enum-told .given .1) (t .before .before .load .ensures)
 
 -- behind 8: the input has its count
 abbrev told : tie.Else1 → tie.After-enum-told
@@ -32,7 +32,7 @@ below b = sym (ap (λ (p : ℕ). allBelow p (start (told (b .before .before)) .a
 returns : tie.Need-returns
 returns c =
     let told = c .before .loaded .given in
-    sym (lists-load _ _ (told .0 .0) (sym (ap causeOf (told .1)) ∙ c .before .before .before .load .ensures))
+    sym (lists-load _ _ (told .0 .0) (refusal-told (told .1) (c .before .before .before .load .ensures)))
 
 input-count-requires : tie.Need-input-count-requires
 input-count-requires c κs = legal-circuit _ (legal c)

@@ -1,20 +1,16 @@
 -- `put` meets its contract: i words stand over the front.
 -- Assumes nothing.
-use Prim.Native.Nat.{ℕ, _≤_, _-_, min}
-use mathlib.Core.Path.{_≡_, sym, ap₂, _∙_}
-use mathlib.Core.List.{List}
-use native.Mathlib.Omega.{arith}
+use Prim.Native.Nat.{_-_, min}
+use mathlib.Core.Path.{_≡_, refl}
 use borrow.Author.Needs.{needs}
-use lib.ListN.{length, length-take, getD, set, take, length-set}
-use lib.Seq.{getD-take}
-use Rattle.lists.specs.Buffer.{over}
-use Rattle.lists.proofs.Buffer.{over-next, over-all}
+use lib.ListN.{length, take}
+use Rattle.lists.proofs.Storing.{Stored, start-held, next-held, end-held}
 use Rattle.lists.proofs.put.Statement.{statement}
 use Rattle.lists.proofs.put.Tie as tie
 
 abbrev Inv-loop : tie.InvT-loop
 Inv-loop buffer₀ words i₀ i-end buffer i =
-    (i ≤ i-end) × (i-end ≡ min (length words) (length buffer₀)) × (buffer ≡ over (take i (take (length buffer₀) words)) buffer₀) × (length buffer ≡ length buffer₀)
+    (i-end ≡ min (length words) (length buffer₀)) × (Stored (take (length buffer₀) words) buffer₀ buffer i)
 
 abbrev μ-loop : tie.MeasureT-loop
 μ-loop buffer₀ words i₀ i-end buffer i = i-end - i
@@ -23,7 +19,7 @@ least-requires : tie.Need-least-requires Inv-loop μ-loop
 least-requires c κs = search needs
 
 loop-holds : tie.Need-loop-holds Inv-loop μ-loop
-loop-holds c = search needs
+loop-holds c = (search needs, start-held _ _)
 
 mul-buffer : tie.Need-mul-buffer Inv-loop μ-loop
 mul-buffer c = search needs
@@ -44,30 +40,13 @@ loop-less : tie.Need-loop-less Inv-loop μ-loop
 loop-less c = search needs
 
 loop-again : tie.Need-loop-again Inv-loop μ-loop
-loop-again c =
-    let at = c .before .before in
-    let a = at .before .before .before .before .args in
-    let i = at .loop .i in
-    let l = a .words .now in
-    let most = length (a .buffer .now) in
-    let count = length-take most l in (
-      search needs,
-      at .loop .inv .1,
-      ap₂ (λ (b : List ℕ) (x : ℕ). set b i x) (at .loop .inv .2) (sym (getD-take most l i 0 (omega (arith, at .loop .inv .1, c .before .loop-test .taken))))
-          ∙ over-next (take most l) (a .buffer .now) i 0 (omega (arith, count, at .loop .inv .1, c .before .loop-test .taken)) (omega (arith, count)),
-      length-set (at .loop .buffer) i (getD l i 0) ∙ at .loop .inv .3,
-    )
+loop-again c = (search needs, next-held _ _ (c .before .before .loop .inv .1) 0 _ (search needs) refl)
 
 same-length : tie.Need-same-length Inv-loop μ-loop
 same-length c = search needs
 
 returns : tie.Need-returns Inv-loop μ-loop
-returns c =
-    let at = c .before in
-    let a = at .before .before .before .before .args in
-    let ms = take (length (a .buffer .now)) (a .words .now) in
-    let count = length-take (length (a .buffer .now)) (a .words .now) in
-    at .loop .inv .2 ∙ over-all ms (a .buffer .now) (at .loop .i) (omega (arith, count, at .loop .inv .1, c .loop-test .left))
+returns c = end-held _ _ (c .before .loop .inv .1) (search needs)
 
 pub put-spec : {M : Type 1} → statement M
 put-spec =

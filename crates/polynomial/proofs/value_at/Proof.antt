@@ -1,4 +1,5 @@
--- `value_at` meets its contract. The loop keeps `Horner`: the value of the coefficients passed, from the last on. The measure is the number of\ncoefficients to come.
+-- `value_at` meets its contract. The loop keeps `Horner`: the value of the coefficients passed, from the last on. The measure is the number of
+-- coefficients to come.
 -- Assumes nothing.
 use borrow.Author.Needs.{needs}
 use Prim.Native.Nat.{_-_}

@@ -5,7 +5,7 @@ use mathlib.Core.Path.{_≡_, sym, ap, _∙_}
 use mathlib.Core.Bool.{true}
 use native.Mathlib.Omega.{arith}
 use lib.ListN.{length, length-replicate}
-use Rattle.refusal.specs.Number.{causeOf}
+use Rattle.refusal.proofs.Order.{refusal-told, none-told}
 use Rattle.circuit.specs.Limits.{maxValues}
 use Rattle.circuit.specs.Circuit.{primeOf, coinCount}
 use Rattle.circuit.specs.Legal.{allBelow, listsCause}
@@ -22,7 +22,7 @@ start t = t .before .before .before .before .before .before .before
 
 -- after 1 to 9
 none : (t : tie.After-enum-told) → listsCause (start t .args .circuit .now) (start t .args .input .now) ≡ 0
-none t = sym (t .before .before .check-lists .ensures) ∙ ap causeOf (t .enum-told .given .1)
+none t = none-told (t .enum-told .given .1) (t .before .before .check-lists .ensures)
 
 legal : (t : tie.After-enum-told) → LegalCircuit (start t .args .circuit .now)
 legal t = legal-lists (start t .args .circuit .now) (start t .args .input .now) (none t) .circuit
@@ -49,7 +49,7 @@ residues e = below (e .before) ∙ not-false (e .if2 .left)
 returns : tie.Need-returns
 returns c =
     let said = c .before .lists .given in
-    one-lists _ _ _ _ (said .0 .0) (sym (ap causeOf (said .1)) ∙ c .before .before .before .check-lists .ensures)
+    one-lists _ _ _ _ (said .0 .0) (refusal-told (said .1) (c .before .before .before .check-lists .ensures))
 
 returns-2 : tie.Need-returns-2
 returns-2 c =

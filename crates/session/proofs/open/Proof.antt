@@ -1,9 +1,9 @@
 -- `open` meets its contract: refusal by refusal.
 -- Assumes nothing.
 use Prim.Native.Nat.{_<_}
-use mathlib.Core.Path.{_≡_, sym, ap, _∙_}
+use mathlib.Core.Path.{_≡_}
 use native.Mathlib.Omega.{arith}
-use Rattle.refusal.specs.Number.{causeOf}
+use Rattle.refusal.proofs.Order.{refusal-told, none-told}
 use Rattle.circuit.specs.Circuit.{primeOf}
 use Rattle.circuit.specs.Legal.{listsCause}
 use Rattle.circuit.specs.Sized.{LegalCircuit}
@@ -18,7 +18,7 @@ abbrev start : tie.After-enum-told → tie.Start
 start t = t .before .before .before .before .before .before
 
 none : (t : tie.After-enum-told) → listsCause (start t .args .circuit .now) (start t .args .input .now) ≡ 0
-none t = sym (t .before .before .check-lists .ensures) ∙ ap causeOf (t .enum-told .given .1)
+none t = none-told (t .enum-told .given .1) (t .before .before .check-lists .ensures)
 
 legal : (t : tie.After-enum-told) → LegalCircuit (start t .args .circuit .now)
 legal t = legal-lists (start t .args .circuit .now) (start t .args .input .now) (none t) .circuit
@@ -30,7 +30,7 @@ below e = omega (arith, e .if1 .left, e .before .prime .ensures)
 returns : tie.Need-returns
 returns c =
     let told = c .before .lists .given in
-    open-lists _ _ _ _ (told .0 .0) (sym (ap causeOf (told .1)) ∙ c .before .before .before .check-lists .ensures)
+    open-lists _ _ _ _ (told .0 .0) (refusal-told (told .1) (c .before .before .before .check-lists .ensures))
 
 returns-2 : tie.Need-returns-2
 returns-2 c =
@@ -43,14 +43,14 @@ returns-3 c =
     let t = e .before .before in
     let said = c .before .taken .given in
     open-coins _ _ (start t .args .output) (start t .args .coins .now) (none t) (below e) (said .0 .0)
-    (sym (ap causeOf (said .1)) ∙ c .before .before .before .check-coins .ensures (legal t))
+    (refusal-told (said .1) (c .before .before .before .check-coins .ensures (legal t)))
 
 returns-4 : tie.Need-returns-4
 returns-4 c =
     let e = c .before .before .before in
     let t = e .before .before in
     open-opens _ _ (start t .args .output) (start t .args .coins .now) (none t) (below e)
-    (sym (ap causeOf (c .enum-told2 .given .1)) ∙ c .before .before .check-coins .ensures (legal t))
+    (none-told (c .enum-told2 .given .1) (c .before .before .check-coins .ensures (legal t)))
 
 pub open-spec : {M : Type 1} → statement M
 open-spec =

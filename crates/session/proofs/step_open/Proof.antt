@@ -8,7 +8,7 @@ use lib.ListN.{length, take, getD}
 use lib.Seq.{length-take-le}
 use Rattle.algebra.specs.Numbers.{words}
 use Rattle.algebra.specs.Polynomial.{valueAt}
-use Rattle.refusal.specs.Number.{causeOf}
+use Rattle.refusal.proofs.Order.{refusal-told, none-told}
 use Rattle.circuit.proofs.Layers.{prime-modulus}
 use Rattle.protocol.specs.Rounds.{Place, place, layerStart, AtRound}
 use Rattle.session.proofs.Records.{own-start, legal}
@@ -61,7 +61,7 @@ returns c =
     let n = judged .before .before in
     let told = c .before .before .judged .given in
     refused-open _ _ _ _ (start n .pre) (number n) (number-is n) (start n .args .message .now) (told .0 .0)
-    (sym (ap causeOf (told .1)) ∙ judged .judge .ensures (spot n)) _ refl (c .ended .ensures)
+    (refusal-told (told .1) (judged .judge .ensures (spot n))) _ refl (c .ended .ensures)
 
 mul-coin : tie.Need-mul-coin
 mul-coin c =
@@ -81,7 +81,7 @@ returns-2 c =
     let m = start n .args .message .now in
     let f = prime-modulus _ (legal _ _ _ _ (start n .pre)) _ _ (value .before .before .prime .ensures) (value .before .of .ensures) in
     let y = value .value-at .ensures ∙ ap (λ (p : ℕ). valueAt (words p) m (getD (cs n) (number n) 0)) f in
-    let passed = sym (judged .judge .ensures (spot n)) ∙ ap causeOf (told .enum-told .given .1) in
+    let passed = none-told (told .enum-told .given .1) (judged .judge .ensures (spot n)) in
     passed-open _ _ _ _ (start n .pre) (number n) (number-is n) m passed _ y _ (c .go-on .ensures)
 
 pub step-open-spec : {M : Type 1} → statement M

@@ -2,9 +2,8 @@
 -- Assumes nothing.
 use borrow.Author.Needs.{needs}
 use Prim.Native.Nat.{ℕ, _-_}
-use mathlib.Core.Path.{_≡_, refl, ap, _∙_}
+use mathlib.Core.Path.{ap, _∙_}
 use native.Mathlib.Omega.{arith}
-use lib.ListN.{length, length-set}
 use Rattle.field.specs.Modulus.{modulus, numbers}
 use Rattle.field.proofs.Word.{by-residue}
 use Rattle.multilinear.proofs.Slope.{by-slope}
@@ -13,7 +12,7 @@ use Rattle.tables.proofs.fold.Statement.{statement}
 use Rattle.tables.proofs.fold.Tie as tie
 
 abbrev Inv-loop : tie.InvT-loop
-Inv-loop f table₀ r half by b₀ table b = (Fold (numbers f) r table₀ table b) × (length table ≡ length table₀)
+Inv-loop f table₀ r half by b₀ table b = Fold (numbers f) r table₀ table b
 
 abbrev μ-loop : tie.MeasureT-loop
 μ-loop f table₀ r half by b₀ table b = half - b
@@ -22,7 +21,7 @@ multiplier-requires : tie.Need-multiplier-requires Inv-loop μ-loop
 multiplier-requires c κs = search needs
 
 loop-holds : tie.Need-loop-holds Inv-loop μ-loop
-loop-holds c = (start _ _ _, refl)
+loop-holds c = start _ _ _
 
 mul-low : tie.Need-mul-low Inv-loop μ-loop
 mul-low c = search needs
@@ -67,17 +66,14 @@ loop-again c =
     let args = made .before .before .args in
     let p : ℕ = modulus (args .f) in
     let N = numbers (args .f) in
-    let product = c .before .times .ensures ∙ by-residue p (args .r) _ _ (made .multiplier .ensures) ∙ ap (N .mul (args .r)) (c .before .before .sub .ensures) in (
-      step _ _ _ _ (at .loop .b) 0 _ (at .loop .inv .0) (search needs)
-          (c .add .ensures ∙ ap (N .add _) product ∙ by-slope p (omega arith) (args .r) _ _),
-      length-set (at .loop .table) (at .loop .b) (c .add .result) ∙ at .loop .inv .1,
-    )
+    let product = c .before .times .ensures ∙ by-residue p (args .r) _ _ (made .multiplier .ensures) ∙ ap (N .mul (args .r)) (c .before .before .sub .ensures) in
+    step _ _ _ _ (at .loop .b) 0 _ (at .loop .inv) (search needs) (c .add .ensures ∙ ap (N .add _) product ∙ by-slope p (omega arith) (args .r) _ _)
 
 same-length : tie.Need-same-length Inv-loop μ-loop
 same-length c = search needs
 
 returns : tie.Need-returns Inv-loop μ-loop
-returns c = end _ _ _ _ (c .before .loop .b) (c .before .loop .inv .0) (search needs)
+returns c = end _ _ _ _ (c .before .loop .b) (c .before .loop .inv) (search needs)
 
 pub fold-spec : {M : Type 1} → statement M
 fold-spec =

@@ -10,7 +10,7 @@ use lib.Seq.{length-take-le}
 use borrow.Author.Needs.{needs}
 use Rattle.algebra.specs.Numbers.{words as words-of}
 use Rattle.algebra.specs.Polynomial.{valueAt}
-use Rattle.refusal.specs.Number.{causeOf}
+use Rattle.refusal.proofs.Order.{refusal-told, none-told}
 use Rattle.circuit.specs.Circuit.{exponentAt}
 use Rattle.circuit.specs.Circuit.{depth as depthOf}
 use Rattle.circuit.specs.Sized.{LegalCircuit}
@@ -201,7 +201,7 @@ loop-again c =
     let wide = c .before .before .before .before .before .before .before .message-length in
     let m = take (t .before .loop .at + wide .result - t .before .loop .at) (drop (t .before .loop .at) (start o .args .messages .now)) in
     let f = prime-modulus _ (legal (start o)) _ _ (o .before .before .before .before .prime .ensures) (o .before .before .before .of .ensures) in
-    let passed = sym (c .before .before .before .before .judge .ensures (spot t)) ∙ ap causeOf (c .before .before .enum-told .given .1) in (
+    let passed = none-told (c .before .before .enum-told .given .1) (c .before .before .before .before .judge .ensures (spot t)) in (
       t .before .loop .inv .0,
       round-passes _ _ _ _ _ (start o .pre) _ _ _ _ _ (t .before .loop .inv .1) (more t) (wide .result) (wide .ensures) (c .value-at .result) passed
           (c .value-at .ensures ∙ ap (λ (p : ℕ). valueAt (words-of p) m (getD (start o .args .coins .now) (t .before .loop .n) 0)) f),
@@ -234,7 +234,7 @@ returns-2 c =
     let wide = c .before .before .before .before .before .before .message-length in
     let told = c .before .judged .given in
     round-refuses _ _ _ _ _ (start (layer t) .pre) _ _ _ _ _ (t .before .loop .inv .1) (more t) (wide .result) (wide .ensures) (told .0 .0)
-    (sym (ap causeOf (told .1)) ∙ c .before .before .before .judge .ensures (spot t))
+    (refusal-told (told .1) (c .before .before .before .judge .ensures (spot t)))
 
 pub walk-spec : {M : Type 1} → statement M
 walk-spec =

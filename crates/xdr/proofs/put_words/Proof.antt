@@ -1,34 +1,18 @@
 -- `put_words` meets its contract: after i turns the first i words stand over the buffer.
 -- Assumes nothing.
-use mathlib.Core.Path.{_≡_, sym, ap, _∙_}
-use mathlib.Core.List.{List}
-use Prim.Native.Nat.{ℕ, _-_, _*_, _/_, _≤_, _<_, min}
+use Prim.Native.Nat.{_-_}
+use mathlib.Core.Path.{sym, _∙_}
 use native.Mathlib.Omega.{arith}
-use lib.ListN.{length, getD, set, take, drop, length-take, length-set}
-use lib.Seq.{getD-take}
-use Rattle.lists.specs.Buffer.{over}
-use Rattle.lists.proofs.Buffer.{over-next, over-all}
-use Rattle.xdr.specs.Read.{words, firstWord}
+use lib.ListN.{length, take}
+use Rattle.lists.proofs.Storing.{Stored, start-held, next-held, end-held}
+use Rattle.xdr.specs.Read.{words}
 use Rattle.xdr.proofs.Words.{length-words, word-of}
 use borrow.Author.Needs.{needs}
 use Rattle.xdr.proofs.put_words.Statement.{statement}
 use Rattle.xdr.proofs.put_words.Tie as tie
 
--- the words that the buffer holds
-abbrev held : List ℕ → List ℕ → List ℕ
-held bytes buffer = take (length buffer) (words bytes)
-
-length-held : (bytes buffer : List ℕ) → length (held bytes buffer) ≡ min (length bytes / 4) (length buffer)
-length-held bytes buffer = simp length-take (omega (arith, length-words bytes))
-
-word-held : (bytes buffer : List ℕ) (i : ℕ) → i < length (held bytes buffer) → getD (held bytes buffer) i 0 ≡ firstWord (drop (4 * i) bytes)
-word-held bytes buffer i h =
-    let n = length-held bytes buffer in
-    getD-take (length buffer) (words bytes) i 0 (omega arith) ∙ word-of bytes i (omega arith)
-
 abbrev Inv-loop : tie.InvT-loop
-Inv-loop bytes buffer₀ count i₀ buffer i =
-    (i ≤ count) × (buffer ≡ over (take i (held bytes buffer₀)) buffer₀) × (length buffer ≡ length buffer₀)
+Inv-loop bytes buffer₀ count i₀ buffer i = Stored (take (length buffer₀) (words bytes)) buffer₀ buffer i
 
 abbrev μ-loop : tie.MeasureT-loop
 μ-loop bytes buffer₀ count i₀ buffer i = count - i
@@ -37,7 +21,7 @@ least-requires : tie.Need-least-requires Inv-loop μ-loop
 least-requires c κs = search needs
 
 loop-holds : tie.Need-loop-holds Inv-loop μ-loop
-loop-holds c = search needs
+loop-holds c = start-held _ _
 
 mul-word-within : tie.Need-mul-word-within Inv-loop μ-loop
 mul-word-within c = search needs
@@ -60,25 +44,18 @@ loop-less c = search needs
 loop-again : tie.Need-loop-again Inv-loop μ-loop
 loop-again c =
     let here = c .before .before in
-    let args = here .before .before .before .before .args in
-    let i = here .loop .i in
-    let ms = held (args .bytes .now) (args .buffer .now) in
-    let n = length-held (args .bytes .now) (args .buffer .now) in
-    let x : c .word-within .result ≡ getD ms i 0 = c .word-within .ensures ∙ sym (word-held (args .bytes .now) (args .buffer .now) i (omega arith)) in (
-      search needs,
-      ap (λ (b : List ℕ). set b i (c .word-within .result)) (here .loop .inv .1) ∙ rw x (over-next ms (args .buffer .now) i 0 (omega arith) (omega arith)),
-      simp length-set (here .loop .inv .2),
-    )
+    let bytes = here .before .before .before .before .args .bytes .now in
+    let size = length-words bytes in
+    next-held (words bytes) _ (here .loop .inv) 0 _ (omega arith) (c .word-within .ensures ∙ sym (word-of bytes (here .loop .i) (omega arith)))
 
 same-length : tie.Need-same-length Inv-loop μ-loop
 same-length c = search needs
 
 returns : tie.Need-returns Inv-loop μ-loop
 returns c =
-    let args = c .before .before .before .before .before .args in
-    let at = c .before .loop in
-    let n = length-held (args .bytes .now) (args .buffer .now) in
-    (c .before .before .least .ensures, at .inv .1 ∙ over-all (held (args .bytes .now) (args .buffer .now)) (args .buffer .now) (at .i) (omega arith))
+    let bytes = c .before .before .before .before .before .args .bytes .now in
+    let size = length-words bytes in
+    (c .before .before .least .ensures, end-held (words bytes) _ (c .before .loop .inv) (omega arith))
 
 pub put-words-spec : {M : Type 1} → statement M
 put-words-spec =
