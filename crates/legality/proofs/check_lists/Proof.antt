@@ -2,7 +2,7 @@
 -- Assumes nothing.
 use mathlib.Core.Path.{_≡_, sym, _∙_}
 use lib.ListN.{length}
-use Rattle.refusal.proofs.Order.{refusal-told, none-told}
+use Rattle.refusal.proofs.Told.{refusal-told, none-told}
 use Rattle.circuit.specs.Circuit.{primeOf, inputCount}
 use Rattle.circuit.specs.Legal.{allBelow, loadAnswer}
 use Rattle.circuit.proofs.Legal.{below-told}
