@@ -22,6 +22,10 @@ below-at : (p : ℕ) (ws : List ℕ) (i : ℕ) → i < length ws → allBelow p 
 unfolding allBelow
 below-at p ws i h = rw (drop-up ws i 0 h)
 
+-- what a test of the words said, with the bound as the code has it
+pub below-told : (ws : List ℕ) {p q : ℕ} {b : Bool} → p ≡ q → b ≡ allBelow p ws → allBelow q ws ≡ b
+below-told ws e told = sym (ap (λ (n : ℕ). allBelow n ws) e) ∙ sym told
+
 pub below-fails : (p : ℕ) (ws : List ℕ) (i : ℕ) → i < length ws → p ≤ getD ws i 0 → allBelow p (drop i ws) ≡ false
 below-fails p ws i h l = below-at p ws i h ∙ ap (λ (b : Bool). b && allBelow p (drop (i + 1) ws)) (le-ltb (getD ws i 0) p l)
 

@@ -5,13 +5,11 @@ use mathlib.Core.Path.{_≡_, refl, sym, ap, _∙_}
 use mathlib.Core.Bool.{Bool, true, false, cond}
 use native.Mathlib.Nat.{suc-ne-zero}
 use lib.Dec.{eqb, eqb·suc-zero}
-use Rattle.refusal.specs.Number.{numberOf, causeOf}
+use Rattle.refusal.specs.Number.{numberOf}
 use Rattle.refusal.specs.Order.{need, first}
 use Rattle.refusal.specs.declared.Cause.{Cause}
 use Rattle.refusal.specs.declared.Cause.the-variants.{HeaderShort, PrimeUnlisted, DepthRange, ExponentRange, WordCount, GateKind, GateWires, InputCount, InputWord, BufferShort}
 use Rattle.refusal.specs.declared.Cause.the-variants.{CoinCount, CoinWord, OutputWord, MessageLength, MessageWord, RoundDiffers, LineDiffers, InputDiffers, RecordUnfit, BytesUnfit}
-use Rattle.refusal.specs.declared.Checked.{Checked}
-use Rattle.refusal.specs.declared.Checked.the-variants.{Legal, Refused}
 
 -- each number is above 0
 numbered : (cause : Cause) (rest : ℕ) → first (numberOf cause) rest ≡ numberOf cause
@@ -43,13 +41,6 @@ numbered-suc cause = go (numberOf cause) refl
     go : (n : ℕ) → numberOf cause ≡ n → (m : ℕ) × (numberOf cause ≡ suc m)
     go zero e = absurd (suc-ne-zero 0 (ap (λ (k : ℕ). first k 1) (sym e) ∙ numbered cause 1 ∙ e))
     go (suc n) e = (n, e)
-
--- what a check's answer says of the number that it promised: it is the cause's, or there is none
-pub refusal-told : {r : Checked} {cause : Cause} {n : ℕ} → r ≡ Refused cause → causeOf r ≡ n → numberOf cause ≡ n
-refusal-told e told = sym (ap causeOf e) ∙ told
-
-pub none-told : {r : Checked} {n : ℕ} → r ≡ Legal → causeOf r ≡ n → n ≡ 0
-none-told e told = sym told ∙ ap causeOf e
 
 -- a refusal is passed on
 pub refused-first : (cause : Cause) (n rest : ℕ) → numberOf cause ≡ n → first n rest ≡ numberOf cause

@@ -42,25 +42,15 @@ module _ (c : List ℕ) (h : LegalCircuit c) (s : Record Place) where
         pub layer-in : LayerOf c (s .round .layer)
         layer-in = layer-of c h (s .round .layer) inside
 
-        pub fits-far : 2 * exponentAt c (s .round .layer) < s .round .round → false ≡ recordFits c s
+        round-decides : (leb (s .round .round) (2 * exponentAt c (s .round .layer)) && ltb (s .claim) (primeOf c)) ≡ recordFits c s
         unfolding recordFits
-        fits-far l =
-            rw (
-              o,
-              le-leb 1 (s .round .layer) low,
-              le-leb (s .round .layer) (length (exponents c)) (omega (arith, deep c h)),
-              lt-leb (s .round .round) (2 * exponentAt c (s .round .layer)) l,
-            ) refl
+        round-decides = rw (o, le-leb 1 (s .round .layer) low, le-leb (s .round .layer) (length (exponents c)) (omega (arith, deep c h))) refl
+
+        pub fits-far : 2 * exponentAt c (s .round .layer) < s .round .round → false ≡ recordFits c s
+        fits-far l = rw (lt-leb (s .round .round) (2 * exponentAt c (s .round .layer)) l) at round-decides
 
         pub fits-claim : s .round .round ≤ 2 * exponentAt c (s .round .layer) → ltb (s .claim) (primeOf c) ≡ recordFits c s
-        unfolding recordFits
-        fits-claim l =
-            rw (
-              o,
-              le-leb 1 (s .round .layer) low,
-              le-leb (s .round .layer) (length (exponents c)) (omega (arith, deep c h)),
-              le-leb (s .round .round) (2 * exponentAt c (s .round .layer)) l,
-            ) refl
+        fits-claim l = rw (le-leb (s .round .round) (2 * exponentAt c (s .round .layer)) l) at round-decides
 
   -- what a fitting record says
   pub record Fit : Type 0 where

@@ -14,7 +14,7 @@ use Rattle.refusal.specs.Number.{causeOf}
 use Rattle.refusal.specs.declared.Cause.{Cause}
 use Rattle.refusal.specs.declared.Checked.{Checked}
 use Rattle.refusal.specs.declared.Checked.the-variants.{Legal, Refused}
-use Rattle.refusal.proofs.Order.{refusal-told, none-told}
+use Rattle.refusal.proofs.Told.{refusal-told, none-told}
 use Rattle.circuit.specs.Circuit.{primeOf, depth, outputExponent, exponents, exponentAt, coinCount, messageWords}
 use Rattle.circuit.specs.Legal.{allBelow, listsCause}
 use Rattle.circuit.specs.Sized.{LegalCircuit}

@@ -48,7 +48,8 @@ module _ {R : Type 0} (g : Game R) (final : Comparison) (rounds : List R) (first
     one-round =
         let back : drop (g .len r) (drop at ms) ≡ drop (at + g .len r) ms = drop-drop (g .len r) at ms in
         ap (λ (l : List ℕ). walk g final (r ∷ rest) (take n cs) claim (drop at ms) l) (drop-up cs n 0 left-coin)
-        ∙ ap₂ (λ (a b : List ℕ). first (g .judge r (take n cs) claim message) (walk g final rest a (g .next message (getD cs n 0)) b (drop (n + 1) cs))) (sym (take-up cs n 0 left-coin)) back
+        ∙ ap₂ (λ (a b : List ℕ). first (g .judge r (take n cs) claim message) (walk g final rest a (g .next message (getD cs n 0)) b (drop (n + 1) cs)))
+        (sym (take-up cs n 0 left-coin)) back
 
     pub left-next : g .judge r (take n cs) claim message ≡ 0 → Left rest (n + 1) (at + g .len r) (g .next message (getD cs n 0))
     left-next e = record {

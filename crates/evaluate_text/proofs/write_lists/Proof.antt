@@ -1,8 +1,8 @@
 -- `write_lists` meets its contract: the evaluation's output is the circuit's value, or its refusal is the lists'.
 -- Assumes nothing.
-use mathlib.Core.Path.{sym, ap, _∙_}
 use native.Mathlib.Omega.{arith}
 use borrow.Author.Needs.{needs}
+use Rattle.refusal.proofs.Told.{told}
 use Rattle.evaluation.specs.Evaluate.{evaluationOf}
 use Rattle.text.proofs.Writing.{wrote-as}
 use Rattle.evaluate_text.proofs.Lists.{printed-refused, printed-output}
@@ -13,13 +13,13 @@ returns : tie.Need-returns
 returns c =
     let q = c .before .before .before .before .before in
     wrote-as _ _ _ _ (c .before .before .write-refused .ensures) _
-    (printed-refused _ _ _ (omega arith) _ (sym (ap evaluationOf (q .evaluated .given .1)) ∙ q .before .before .before .evaluate .ensures .answer))
+    (printed-refused _ _ _ (omega arith) _ (told evaluationOf (q .evaluated .given .1) (q .before .before .before .evaluate .ensures .answer)))
 
 returns-2 : tie.Need-returns-2
 returns-2 c =
     let q = c .before .before .before .before .before .before .before in
     wrote-as _ _ _ _ (c .before .before .put-line .ensures) _
-    (printed-output _ _ _ (omega arith) _ (sym (ap evaluationOf (q .evaluated2 .given .1)) ∙ q .before .before .before .evaluate .ensures .answer))
+    (printed-output _ _ _ (omega arith) _ (told evaluationOf (q .evaluated2 .given .1) (q .before .before .before .evaluate .ensures .answer)))
 
 pub write-lists-spec : {M : Type 1} → statement M
 write-lists-spec =

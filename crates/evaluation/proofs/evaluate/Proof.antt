@@ -7,7 +7,7 @@ use native.Mathlib.Omega.{arith}
 use lib.ListN.{length, take}
 use lib.Seq.{length-take-le}
 use Rattle.lists.proofs.Buffer.{over-whole}
-use Rattle.refusal.proofs.Order.{refusal-told, none-told}
+use Rattle.refusal.proofs.Told.{refusal-told, none-told}
 use Rattle.circuit.specs.Limits.{maxValues}
 use Rattle.circuit.specs.Circuit.{depth, gatesBefore, valueCount}
 use Rattle.circuit.specs.Legal.{listsCause}

@@ -1,11 +1,11 @@
 -- `judge` meets its contract: refusal by refusal.
 -- Assumes nothing.
-use Prim.Native.Nat.{ℕ}
-use mathlib.Core.Path.{_≡_, sym, ap, _∙_}
+use mathlib.Core.Path.{_≡_, sym, _∙_}
 use mathlib.Core.Bool.{true}
 use lib.ListN.{length}
 use Rattle.circuit.specs.Circuit.{primeOf}
 use Rattle.circuit.specs.Legal.{allBelow}
+use Rattle.circuit.proofs.Legal.{below-told}
 use Rattle.circuit.proofs.Loading.{not-true, not-false}
 use Rattle.protocol.specs.Rounds.{place}
 use Rattle.protocol.specs.Judge.{messageLength}
@@ -26,7 +26,7 @@ abbrev sized : tie.After-all-below → tie.Else1
 sized w = w .before .before
 
 below : (w : tie.After-all-below) → allBelow (primeOf (start (sized w) .args .circuit .now)) (start (sized w) .args .message .now) ≡ w .all-below .result
-below w = sym (ap (λ (p : ℕ). allBelow p (start (sized w) .args .message .now)) (w .before .prime .ensures)) ∙ sym (w .all-below .ensures)
+below w = below-told (start (sized w) .args .message .now) (w .before .prime .ensures) (w .all-below .ensures)
 
 small : (e : tie.Else2) → allBelow (primeOf (start (sized (e .before)) .args .circuit .now)) (start (sized (e .before)) .args .message .now) ≡ true
 small e = below (e .before) ∙ not-false (e .if2 .left)

@@ -2,7 +2,7 @@
 -- Assumes nothing.
 use mathlib.Core.Path.{_∙_}
 use Rattle.verifier.specs.Answers.{outcomeOf}
-use Rattle.kidlothe.proofs.Told.{told}
+use Rattle.refusal.proofs.Told.{told}
 use borrow.Author.Needs.{needs}
 use Rattle.kidlothe.proofs.kidlothe_check.Statement.{statement}
 use Rattle.kidlothe.proofs.kidlothe_check.Tie as tie

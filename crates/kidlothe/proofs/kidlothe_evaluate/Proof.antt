@@ -3,7 +3,7 @@
 use mathlib.Core.Path.{ap, _∙_}
 use Rattle.evaluation.specs.Evaluate.{evaluationOf, refused}
 use Rattle.kidlothe.specs.Answers.{plainEvaluation}
-use Rattle.kidlothe.proofs.Told.{told}
+use Rattle.refusal.proofs.Told.{told}
 use borrow.Author.Needs.{needs}
 use Rattle.kidlothe.proofs.kidlothe_evaluate.Statement.{statement}
 use Rattle.kidlothe.proofs.kidlothe_evaluate.Tie as tie

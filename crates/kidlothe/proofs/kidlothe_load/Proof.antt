@@ -2,7 +2,7 @@
 -- Assumes nothing.
 use mathlib.Core.Path.{_∙_}
 use Rattle.refusal.specs.Number.{causeOf}
-use Rattle.kidlothe.proofs.Told.{told}
+use Rattle.refusal.proofs.Told.{told}
 use borrow.Author.Needs.{needs}
 use Rattle.kidlothe.proofs.kidlothe_load.Statement.{statement}
 use Rattle.kidlothe.proofs.kidlothe_load.Tie as tie

@@ -1,7 +1,7 @@
 -- `kidlothe_open` meets its contract: the case of the answer gives its number and the words.
 -- Assumes nothing.
 use Rattle.session.specs.Answers.{recordOf, openingOf}
-use Rattle.kidlothe.proofs.Told.{told}
+use Rattle.refusal.proofs.Told.{told}
 use Rattle.kidlothe.proofs.Opening.{export-opened, export-refused}
 use borrow.Author.Needs.{needs}
 use Rattle.kidlothe.proofs.kidlothe_open.Statement.{statement}

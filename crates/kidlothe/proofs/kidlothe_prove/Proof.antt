@@ -4,7 +4,7 @@ use mathlib.Core.Path.{ap, _∙_}
 use Rattle.protocol.specs.Prove.{Proof}
 use Rattle.prover.specs.Answers.{provedOf}
 use Rattle.kidlothe.specs.Answers.{plainProof}
-use Rattle.kidlothe.proofs.Told.{told}
+use Rattle.refusal.proofs.Told.{told}
 use borrow.Author.Needs.{needs}
 use Rattle.kidlothe.proofs.kidlothe_prove.Statement.{statement}
 use Rattle.kidlothe.proofs.kidlothe_prove.Tie as tie

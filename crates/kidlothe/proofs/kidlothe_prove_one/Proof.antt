@@ -4,7 +4,7 @@ use mathlib.Core.Path.{ap, _∙_}
 use Rattle.protocol.specs.Prove.{OneMessage}
 use Rattle.prover.specs.Answers.{messageOf}
 use Rattle.kidlothe.specs.Answers.{plainWritten}
-use Rattle.kidlothe.proofs.Told.{told}
+use Rattle.refusal.proofs.Told.{told}
 use borrow.Author.Needs.{needs}
 use Rattle.kidlothe.proofs.kidlothe_prove_one.Statement.{statement}
 use Rattle.kidlothe.proofs.kidlothe_prove_one.Tie as tie

@@ -3,7 +3,7 @@
 use mathlib.Core.Path.{ap, _∙_}
 use Rattle.xdr.specs.Read.{answerOf, refused}
 use Rattle.kidlothe.specs.Answers.{plainCounts}
-use Rattle.kidlothe.proofs.Told.{told}
+use Rattle.refusal.proofs.Told.{told}
 use borrow.Author.Needs.{needs}
 use Rattle.kidlothe.proofs.kidlothe_read.Statement.{statement}
 use Rattle.kidlothe.proofs.kidlothe_read.Tie as tie

@@ -4,7 +4,8 @@ use Prim.Native.Nat.{ℕ, _≤_, _-_, _*_}
 use mathlib.Core.Path.{_≡_, sym, ap, _∙_}
 use native.Mathlib.Nat.{sub-zero}
 use lib.ListN.{drop}
-use Rattle.refusal.proofs.Order.{refusal-told, none-told, refused-first, legal-first}
+use Rattle.refusal.proofs.Order.{refused-first, legal-first}
+use Rattle.refusal.proofs.Told.{refusal-told, none-told}
 use Rattle.circuit.specs.Circuit.{gatesOf}
 use Rattle.circuit.specs.Legal.{gatesCause}
 use Rattle.circuit.proofs.Legal.{gates-at, gates-end}

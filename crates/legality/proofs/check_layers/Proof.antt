@@ -5,7 +5,7 @@ use mathlib.Core.Path.{_≡_, sym, ap, _∙_}
 use mathlib.Core.List.{List}
 use native.Mathlib.Omega.{arith}
 use lib.ListN.{length, take, drop}
-use Rattle.refusal.proofs.Order.{refusal-told, none-told}
+use Rattle.refusal.proofs.Told.{refusal-told, none-told}
 use Rattle.circuit.specs.Limits.{maxGates}
 use Rattle.circuit.specs.Circuit.{depth, exponentAt, widthOf}
 use Rattle.circuit.proofs.Sized.{exponent-width, exponent-next}

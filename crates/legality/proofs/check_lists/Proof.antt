@@ -1,11 +1,11 @@
 -- `check_lists` meets its contract: each return is one case of `listsCause`.
 -- Assumes nothing.
-use Prim.Native.Nat.{ℕ}
-use mathlib.Core.Path.{_≡_, sym, ap, _∙_}
+use mathlib.Core.Path.{_≡_, sym, _∙_}
 use lib.ListN.{length}
-use Rattle.refusal.proofs.Order.{refusal-told, none-told}
+use Rattle.refusal.proofs.Told.{refusal-told, none-told}
 use Rattle.circuit.specs.Circuit.{primeOf, inputCount}
 use Rattle.circuit.specs.Legal.{allBelow, loadAnswer}
+use Rattle.circuit.proofs.Legal.{below-told}
 use Rattle.circuit.proofs.Loading.{not-true, not-false, legal-circuit, lists-load, lists-count, lists-word, lists-legal}
 use borrow.Author.Needs.{needs}
 use Rattle.legality.proofs.check_lists.Statement.{statement}
@@ -27,7 +27,7 @@ count n = n .if1 .left ∙ n .before .input-count .ensures
 
 -- at 9: what is said of its words
 below : (b : tie.After-all-below) → allBelow (primeOf (start (told (b .before .before)) .args .circuit .now)) (start (told (b .before .before)) .args .input .now) ≡ b .all-below .result
-below b = sym (ap (λ (p : ℕ). allBelow p (start (told (b .before .before)) .args .input .now)) (b .before .prime .ensures)) ∙ sym (b .all-below .ensures)
+below b = below-told (start (told (b .before .before)) .args .input .now) (b .before .prime .ensures) (b .all-below .ensures)
 
 returns : tie.Need-returns
 returns c =

@@ -1,11 +1,12 @@
 -- `write_text` meets its contract: bytes that are not the program's arrays are refused, and the others' parts are its lists.
 -- Assumes nothing.
 use Prim.Native.Nat.{ℕ}
-use mathlib.Core.Path.{_≡_, sym, ap, _∙_}
+use mathlib.Core.Path.{_≡_, sym}
 use mathlib.Core.Option.{Option}
 use mathlib.Core.List.{List}
 use lib.ListN.{replicate, length-replicate}
 use borrow.Author.Needs.{needs}
+use Rattle.refusal.proofs.Told.{told}
 use Rattle.xdr.specs.Read.{answerOf}
 use Rattle.text.proofs.Writing.{wrote-as}
 use Rattle.printing.specs.Limits.{maxWords}
@@ -33,7 +34,7 @@ standing : (r : tie.After-read2)
 standing r =
     let call = r .before .before .read-lists in
     parts _ _ (replicate maxWords 0) (length-replicate {A = ℕ} maxWords 0) _ _ _ _ _
-    (sym (ap answerOf (r .read2 .given .1)) ∙ call .ensures .0) (call .ensures .1)
+    (told answerOf (r .read2 .given .1) (call .ensures .0)) (call .ensures .1)
 
 slice-aggregate-write-parts : tie.Need-slice-aggregate-write-parts
 slice-aggregate-write-parts c = sym (standing (c .before .before) .size)
@@ -45,7 +46,7 @@ returns : tie.Need-returns
 returns c =
     let r = c .before .before .before .before .before in
     wrote-as _ _ _ _ (c .before .before .write-refused .ensures) _
-    (printed-unfit _ _ _ (called-for (r .before .before)) _ (sym (ap answerOf (r .read .given .1)) ∙ r .before .before .read-lists .ensures .0))
+    (printed-unfit _ _ _ (called-for (r .before .before)) _ (told answerOf (r .read .given .1) (r .before .before .read-lists .ensures .0)))
 
 returns-2 : tie.Need-returns-2
 returns-2 c =

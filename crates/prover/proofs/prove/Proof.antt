@@ -3,7 +3,7 @@
 use Prim.Native.Nat.{_≤_}
 use native.Mathlib.Omega.{arith}
 use lib.ListN.{length}
-use Rattle.refusal.proofs.Order.{refusal-told}
+use Rattle.refusal.proofs.Told.{refusal-told}
 use Rattle.circuit.specs.Circuit.{messageWords}
 use Rattle.protocol.proofs.Coins.{Admitted, its-circuit}
 use Rattle.standing.proofs.Coins.{coins-refused, admitted}

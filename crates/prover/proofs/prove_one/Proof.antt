@@ -1,15 +1,16 @@
 -- `prove_one` meets its contract: refusal by refusal, then the message of the round that follows the prefix.
 -- Assumes nothing.
 use Prim.Native.Nat.{ℕ, _<_}
-use mathlib.Core.Path.{_≡_, sym, ap, _∙_}
+use mathlib.Core.Path.{_≡_, _∙_}
 use mathlib.Core.Bool.{true}
 use native.Mathlib.Omega.{arith}
 use lib.ListN.{length, length-replicate}
-use Rattle.refusal.proofs.Order.{refusal-told, none-told}
+use Rattle.refusal.proofs.Told.{refusal-told, none-told}
 use Rattle.circuit.specs.Limits.{maxValues}
 use Rattle.circuit.specs.Circuit.{primeOf, coinCount}
 use Rattle.circuit.specs.Legal.{allBelow, listsCause}
 use Rattle.circuit.specs.Sized.{LegalCircuit}
+use Rattle.circuit.proofs.Legal.{below-told}
 use Rattle.circuit.proofs.Loading.{legal-lists, not-true, not-false}
 use Rattle.prover.proofs.Values.{writable}
 use Rattle.prover.proofs.Following.{one-lists, one-count, one-word, one-short, one-written}
@@ -38,7 +39,7 @@ abbrev counted : tie.After-all-below → tie.After-enum-told
 counted w = w .before .before .before .before
 
 below : (w : tie.After-all-below) → allBelow (primeOf (start (counted w) .args .circuit .now)) (start (counted w) .args .prefix .now) ≡ w .all-below .result
-below w = sym (ap (λ (p : ℕ). allBelow p (start (counted w) .args .prefix .now)) (w .before .prime .ensures)) ∙ sym (w .all-below .ensures)
+below w = below-told (start (counted w) .args .prefix .now) (w .before .prime .ensures) (w .all-below .ensures)
 
 abbrev told : tie.Else2 → tie.After-enum-told
 told e = counted (e .before)

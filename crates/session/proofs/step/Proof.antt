@@ -2,7 +2,7 @@
 -- Assumes nothing.
 use mathlib.Core.Path.{_≡_, sym, _∙_}
 use mathlib.Core.Bool.{true}
-use Rattle.refusal.proofs.Order.{refusal-told}
+use Rattle.refusal.proofs.Told.{refusal-told}
 use Rattle.circuit.proofs.Loading.{not-true, not-false}
 use Rattle.protocol.specs.Session.{recordFits}
 use Rattle.protocol.proofs.Coins.{Admitted, its-circuit}

@@ -8,7 +8,7 @@ use lib.ListN.{length, take, getD}
 use lib.Seq.{length-take-le}
 use Rattle.algebra.specs.Numbers.{words}
 use Rattle.algebra.specs.Polynomial.{valueAt}
-use Rattle.refusal.proofs.Order.{refusal-told, none-told}
+use Rattle.refusal.proofs.Told.{refusal-told, none-told}
 use Rattle.circuit.proofs.Layers.{prime-modulus}
 use Rattle.protocol.specs.Rounds.{Place, place, layerStart, AtRound}
 use Rattle.session.proofs.Records.{own-start, legal}

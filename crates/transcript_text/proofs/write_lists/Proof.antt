@@ -1,9 +1,10 @@
 -- `write_lists` meets its contract: the prover's words are the transcript, or its refusal is the lists'.
 -- Assumes nothing.
-use mathlib.Core.Path.{sym, ap, _∙_}
+use mathlib.Core.Path.{sym}
 use native.Mathlib.Omega.{arith}
 use lib.Seq.{length-take-le}
 use borrow.Author.Needs.{needs}
+use Rattle.refusal.proofs.Told.{told}
 use Rattle.prover.specs.Answers.{provedOf}
 use Rattle.text.proofs.Writing.{wrote-as}
 use Rattle.transcript_text.proofs.Answers.{Printed, printed-refused, printed-proved}
@@ -17,7 +18,7 @@ written : (q : tie.After-proved2)
     Printed (a .circuit .now) (a .input .now) (a .coins .now) (p .output) (p .words) (q .before .before .before .prove .last .1 .1 .1 .0)
 written q =
     let call = q .before .before .before .prove in
-    printed-proved _ _ _ _ (omega arith) _ _ _ (sym (ap provedOf (q .proved2 .given .1)) ∙ call .ensures .answer) (call .ensures .buffer)
+    printed-proved _ _ _ _ (omega arith) _ _ _ (told provedOf (q .proved2 .given .1) (call .ensures .answer)) (call .ensures .buffer)
 
 array-share-prefix-messages : tie.Need-array-share-prefix-messages
 array-share-prefix-messages c = written (c .before) .inside
@@ -34,7 +35,7 @@ returns : tie.Need-returns
 returns c =
     let q = c .before .before .before .before .before in
     wrote-as _ _ _ _ (c .before .before .write-refused .ensures) _
-    (printed-refused _ _ _ _ (omega arith) _ (sym (ap provedOf (q .proved .given .1)) ∙ q .before .before .before .prove .ensures .answer))
+    (printed-refused _ _ _ _ (omega arith) _ (told provedOf (q .proved .given .1) (q .before .before .before .prove .ensures .answer)))
 
 returns-2 : tie.Need-returns-2
 returns-2 c =

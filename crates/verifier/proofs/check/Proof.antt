@@ -2,8 +2,9 @@
 -- opened record.
 -- Assumes nothing.
 use Prim.Native.Nat.{ℕ}
-use mathlib.Core.Path.{_≡_, sym, ap, _∙_}
+use mathlib.Core.Path.{_≡_, sym, _∙_}
 use mathlib.Core.List.{List}
+use Rattle.refusal.proofs.Told.{told}
 use Rattle.circuit.specs.Circuit.{messageWords}
 use Rattle.circuit.proofs.Loading.{legal-lists}
 use Rattle.protocol.specs.Check.{Counted}
@@ -39,7 +40,7 @@ module _ (w : Asked) where
   session = w .before .before .opening2 .given .0 .0
 
   opens-it : opens (recordOf session) ≡ openAnswer l v (start w .args .output) cs
-  opens-it = sym (ap openingOf (w .before .before .opening2 .given .1)) ∙ w .before .before .before .before .«open» .ensures
+  opens-it = told openingOf (w .before .before .opening2 .given .1) (w .before .before .before .before .«open» .ensures)
 
   given : Counted l v cs
   given = opened-given l v (start w .args .output) cs ms (recordOf session) opens-it
@@ -57,8 +58,8 @@ walk-requires c κs = record { given = given (c .before); words = c .if1 .left �
 
 returns-2 : tie.Need-returns-2
 returns-2 c =
-    let told = c .before .opening .given in
-    check-refused _ _ _ _ _ (told .0 .0) (sym (ap openingOf (told .1)) ∙ c .before .before .before .«open» .ensures)
+    let said = c .before .opening .given in
+    check-refused _ _ _ _ _ (said .0 .0) (told openingOf (said .1) (c .before .before .before .«open» .ensures))
 
 returns-3 : tie.Need-returns-3
 returns-3 c =

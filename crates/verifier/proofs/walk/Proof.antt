@@ -10,7 +10,7 @@ use lib.Seq.{length-take-le}
 use borrow.Author.Needs.{needs}
 use Rattle.algebra.specs.Numbers.{words as words-of}
 use Rattle.algebra.specs.Polynomial.{valueAt}
-use Rattle.refusal.proofs.Order.{refusal-told, none-told}
+use Rattle.refusal.proofs.Told.{refusal-told, none-told}
 use Rattle.circuit.specs.Circuit.{exponentAt}
 use Rattle.circuit.specs.Circuit.{depth as depthOf}
 use Rattle.circuit.specs.Sized.{LegalCircuit}
