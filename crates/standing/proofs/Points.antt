@@ -14,7 +14,9 @@ use Rattle.extension.specs.Limits.{rowLength}
 use Rattle.circuit.specs.Circuit.{primeOf, depth, outputExponent, exponentAt}
 use Rattle.circuit.proofs.Sized.{one-output, deep, exponent-small}
 use Rattle.sumcheck.specs.Summand.{linePoint}
+use Rattle.sumcheck.proofs.Message.{length-line}
 use Rattle.sumcheck.proofs.Words.{line-point-length}
+use Rattle.summand.proofs.Line.{take-line}
 use Rattle.protocol.specs.Start.{firstPoint}
 use Rattle.protocol.specs.Rounds.{layerStart}
 use Rattle.protocol.specs.Judge.{lineEnd, pointAt}
@@ -39,7 +41,7 @@ firstStart past k = secondStart past k - k
 pub record LineRows (p : ℕ) (past : List ℕ) (k : ℕ) (u v r : List ℕ) : Type 0 where
   pub first : Row (take rowLength (take (secondStart past k - firstStart past k) (drop (firstStart past k) past))) u
   pub second : Row (take rowLength (take (lastCoin past - secondStart past k) (drop (secondStart past k) past))) v
-  pub point : Row (linePoint (words p) (take k u) (take k v) (getD past (lastCoin past) 0)) r
+  pub point : r ≡ linePoint (words p) u v (getD past (lastCoin past) 0)
 
 module _ (c : List ℕ) (l : ℕ) (past : List ℕ) (h : AtLayer c (suc (suc l)) (length past)) where
   inside : suc l ≤ depth c
@@ -103,11 +105,15 @@ module _ (c : List ℕ) (l : ℕ) (past : List ℕ) (h : AtLayer c (suc (suc l))
     line-row : (u v r : List ℕ) → LineRows (primeOf c) past k u v r → Row (pointAt c (suc (suc l)) past) r
     line-row u v r rows =
         let N = words (primeOf c) in
-        let front-u : take k u ≡ take K cs = front-take (row-whole first-there (rw first-long fits) (rows .first)) k (ek ∙ sym first-long) in
-        let front-v : take k v ≡ take K (drop K cs) = front-take (row-whole second-there (rw second-long fits) (rows .second)) k (ek ∙ sym second-long) in
-        let point = ap₂ (λ (a b : List ℕ). linePoint N a b (getD past (lastCoin past) 0)) front-u front-v
-        ∙ ap (linePoint N (take K cs) (take K (drop K cs))) last-there ∙ sym point-own in
-        subst (λ (z : List ℕ). Row z r) point (rows .point)
+        let t : ℕ = getD past (lastCoin past) 0 in
+        let front-u : take K u ≡ take K cs = front-take (row-whole first-there (rw first-long fits) (rows .first)) K (sym first-long) in
+        let front-v : take K v ≡ take K (drop K cs) = front-take (row-whole second-there (rw second-long fits) (rows .second)) K (sym second-long) in
+        record {
+          size = ap length (rows .point) ∙ length-line N rowLength u v t (rows .first .size) (rows .second .size);
+          holds =
+              ap₂ take above-length (rows .point) ∙ take-line N K u v t ∙ ap₂ (λ (a b : List ℕ). linePoint N a b t) front-u front-v
+              ∙ ap (linePoint N (take K cs) (take K (drop K cs))) last-there ∙ sym point-own;
+        }
 
 -- the same, of a layer that is not the first
 module _ (c : List ℕ) (past : List ℕ) where

@@ -108,7 +108,7 @@ pub fn standing_point(circuit: &[u32], layer: usize, past: &[u32]) -> [u32; MAX_
     let v = t - k;
     let u = v - k;
     let points = [row(&past[u..v]), row(&past[v..t])];
-    summand::line_point(Field::of(layout::prime(circuit)), points, k, past[t])
+    summand::line_point(Field::of(layout::prime(circuit)), points, past[t])
 }
 
 // What stands at a round: the exponents of the layer above and of its own, the standing point, and the layer's coins so far as coordinates of

@@ -4,31 +4,32 @@ use field::Field;
 ghost use mathlib.Core.Path.{_≡_};
 ghost use mathlib.Core.List.{[]};
 ghost use lib.ListN.{take, getD};
-ghost use Rattle.lists.specs.Front.{Front};
 ghost use Rattle.field.specs.Modulus.{numbers};
-ghost use Rattle.extension.specs.Limits.{rowLength};
 ghost use Rattle.sumcheck.specs.Summand.{gateWeight, combined, linePoint};
 ghost use Rattle.summand.specs.Gates.{gatesIn, placeOf, wirings, byKinds};
 
 // How many kinds of gates do something with two values: kind 1 and those that follow it.
 const KINDS: usize = 2;
 
-// The point of the line from the first row to the second, at t: u + t × (v - u), coordinate by coordinate, the first k of each row, at the
-// front of a row. A k above the length of a row stands for all of it.
-pub fn line_point(
-    f: Field,
-    points: [[u32; MAX_COORDINATES]; 2],
-    k: usize,
-    t: u32,
-) -> [u32; MAX_COORDINATES]
-    ensures { λ r. ⌜ Front rowLength (linePoint (numbers f) (take k (getD points 0 [])) (take k (getD points 1 [])) t) r ⌝ }
+// t times a difference, without a product where there is none: rows end in words that stand for no coordinate, and those are alike.
+fn scaled(f: Field, t: u32, difference: u32) -> u32
+    ensures { λ r. ⌜ r ≡ numbers f .mul t difference ⌝ }
 {
-    let n = lists::least(k, MAX_COORDINATES);
+    if difference == 0 {
+        return Field::ZERO;
+    }
+    f.mul(t, difference)
+}
+
+// The point of the line from the first row to the second, at t: u + t × (v - u), coordinate by coordinate.
+pub fn line_point(f: Field, points: [[u32; MAX_COORDINATES]; 2], t: u32) -> [u32; MAX_COORDINATES]
+    ensures { λ r. ⌜ r ≡ linePoint (numbers f) (getD points 0 []) (getD points 1 []) t ⌝ }
+{
     let mut line = [0u32; MAX_COORDINATES];
     let mut i = 0;
-    while i < n {
+    while i < MAX_COORDINATES {
         let x = points[0][i];
-        line[i] = f.add(x, f.mul(t, f.sub(points[1][i], x)));
+        line[i] = f.add(x, scaled(f, t, f.sub(points[1][i], x)));
         i += 1;
     }
     line

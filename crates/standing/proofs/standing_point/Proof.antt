@@ -1,14 +1,12 @@
 -- `standing_point` meets its contract: the last 2k + 1 coins are those of the layer above, and its line ends at the point.
 -- Assumes nothing.
 use Prim.Native.Nat.{ℕ, _-_}
-use mathlib.Core.List.{List}
-use lib.ListN.{length, take, getD}
-use mathlib.Core.Path.{subst}
+use lib.ListN.{length, getD}
+use mathlib.Core.Path.{ap, _∙_}
 use native.Mathlib.Omega.{arith}
 use Rattle.algebra.specs.Numbers.{words}
 use Rattle.circuit.proofs.Layers.{prime-modulus}
 use Rattle.sumcheck.specs.Summand.{linePoint}
-use Rattle.standing.specs.Standing.{Row}
 use Rattle.standing.proofs.Points.{standing-enough, first-row, standing-row}
 use borrow.Author.Needs.{needs}
 use Rattle.standing.proofs.standing_point.Statement.{statement}
@@ -35,10 +33,8 @@ returns-3 c h =
     let f = prime-modulus l (h .there .legal) _ _ (c .before .before .before .prime .ensures) (c .before .before .of .ensures) in
     let first = c .before .before .before .before .before .before .row2 in
     let second = c .before .before .before .before .row3 in
-    let k = at .exponent .result in
-    let end : ℕ → List ℕ = λ p. linePoint (words p) (take k (first .result)) (take k (second .result)) (getD past (length past - 1) 0) in
-    let line = subst (λ (p : ℕ). Row (end p) (c .line-point .result)) f (c .line-point .ensures) in
-    standing-row l past (start .args .layer) k _ _ _ h (at .before .if1 .left) (at .exponent .ensures)
+    let line = c .line-point .ensures ∙ ap (λ (p : ℕ). linePoint (words p) (first .result) (second .result) (getD past (length past - 1) 0)) f in
+    standing-row l past (start .args .layer) (at .exponent .result) _ _ _ h (at .before .if1 .left) (at .exponent .ensures)
     (record { first = first .ensures; second = second .ensures; point = line })
 
 pub standing-point-spec : {M : Type 1} → statement M
