@@ -83,18 +83,6 @@ rest t = gates-lent (list (known t)) (gates t) (from t) (known t .all-gates .ens
 room : (t : Turn) → 3 * from t ≤ length (gates t)
 room t = turn-room _ _ (start (known t) .pre .0) _ _ _ _ (inside t) (filled t) (wide t) (gates t) (known t .all-gates .ensures)
 
-prime-requires : tie.Need-prime-requires Inv-loop μ-loop
-prime-requires c κs = search needs
-
-of-requires : tie.Need-of-requires Inv-loop μ-loop
-of-requires c κs = search needs
-
-depth-requires : tie.Need-depth-requires Inv-loop μ-loop
-depth-requires c κs = search needs
-
-all-gates-requires : tie.Need-all-gates-requires Inv-loop μ-loop
-all-gates-requires c κs = search needs
-
 place-input-requires : tie.Need-place-input-requires Inv-loop μ-loop
 place-input-requires c κs = input-fits _ _ (start c .pre .0) _ (start c .pre .1)
 
@@ -103,18 +91,6 @@ loop-holds c =
     let g = c .before in
     let all : depthOf (list g) ≡ g .before .depth .result - 0 = omega (arith, deep g) in
     (search needs, from-layer all (filled-start _ _ (start g .pre .0) _ (start g .pre .1) _ (c .place-input .ensures)))
-
-sub-exponent : tie.Need-sub-exponent Inv-loop μ-loop
-sub-exponent c = search needs
-
-sub-exponent-2 : tie.Need-sub-exponent-2 Inv-loop μ-loop
-sub-exponent-2 c = search needs
-
-exponent-requires : tie.Need-exponent-requires Inv-loop μ-loop
-exponent-requires c κs = search needs
-
-width-requires : tie.Need-width-requires Inv-loop μ-loop
-width-requires c κs = search needs
 
 sub-at : tie.Need-sub-at Inv-loop μ-loop
 sub-at c = let s = sizes c in omega arith
@@ -151,12 +127,6 @@ fill-layer-requires c κs =
     let t = c .before .before in
     rw (rest t) (turn-fillable _ _ (start (known t) .pre .0) _ _ _ _ (inside t) (filled t) (wide t))
 
-add-i : tie.Need-add-i Inv-loop μ-loop
-add-i c = search needs
-
-loop-less : tie.Need-loop-less Inv-loop μ-loop
-loop-less c = search needs
-
 loop-again : tie.Need-loop-again Inv-loop μ-loop
 loop-again c =
     let t = c .before .before .before .before in
@@ -179,30 +149,7 @@ pub all-values-spec : {M : Type 1} → statement M
 all-values-spec =
     tie.close
     (tie.spec
-    Inv-loop
-    μ-loop
-    prime-requires
-    of-requires
-    depth-requires
-    all-gates-requires
-    place-input-requires
-    loop-holds
-    sub-exponent
-    sub-exponent-2
-    exponent-requires
-    width-requires
-    sub-at
-    mul-fill-layer
-    mul-fill-layer-2
-    sub-fill-layer
-    part-fill-layer-start
-    part-fill-layer-end
-    mul-values
-    sub-fill-layer-2
-    part-values-start
-    part-values-end
-    fill-layer-requires
-    add-i
-    loop-less
-    loop-again
-    returns)
+    Inv-loop μ-loop (λ c κs. search needs) (λ c κs. search needs) (λ c κs. search needs) (λ c κs. search needs) place-input-requires loop-holds
+    (λ c. search needs) (λ c. search needs) (λ c κs. search needs) (λ c κs. search needs) sub-at mul-fill-layer mul-fill-layer-2 sub-fill-layer
+    part-fill-layer-start part-fill-layer-end mul-values sub-fill-layer-2 part-values-start part-values-end fill-layer-requires (λ c. search needs)
+    (λ c. search needs) loop-again returns)

@@ -34,18 +34,6 @@ wires t =
 loop-holds : tie.Need-loop-holds Inv-loop μ-loop
 loop-holds c = layer-start _ _ _ _ (search needs)
 
-mul-g : tie.Need-mul-g Inv-loop μ-loop
-mul-g c = search needs
-
-add-x : tie.Need-add-x Inv-loop μ-loop
-add-x c = search needs
-
-mul-x : tie.Need-mul-x Inv-loop μ-loop
-mul-x c = search needs
-
-shared-slice-read-x : tie.Need-shared-slice-read-x Inv-loop μ-loop
-shared-slice-read-x c = search needs
-
 cast-x : tie.Need-cast-x Inv-loop μ-loop
 cast-x c = let w = wires (c .before) in omega arith
 
@@ -57,15 +45,6 @@ mul-x-2 c = let w = wires (c .before) in omega arith
 
 slice-read-x : tie.Need-slice-read-x Inv-loop μ-loop
 slice-read-x c = let w = wires (c .before .before) in omega arith
-
-add-y : tie.Need-add-y Inv-loop μ-loop
-add-y c = search needs
-
-mul-y : tie.Need-mul-y Inv-loop μ-loop
-mul-y c = search needs
-
-shared-slice-read-y : tie.Need-shared-slice-read-y Inv-loop μ-loop
-shared-slice-read-y c = search needs
 
 cast-y : tie.Need-cast-y Inv-loop μ-loop
 cast-y c = let w = wires (c .before .before .before) in omega arith
@@ -79,34 +58,10 @@ mul-y-2 c = let w = wires (c .before .before .before) in omega arith
 slice-read-y : tie.Need-slice-read-y Inv-loop μ-loop
 slice-read-y c = let w = wires (c .before .before .before .before) in omega arith
 
-mul-gate-value : tie.Need-mul-gate-value Inv-loop μ-loop
-mul-gate-value c = search needs
-
-shared-slice-read-gate-value : tie.Need-shared-slice-read-gate-value Inv-loop μ-loop
-shared-slice-read-gate-value c = search needs
-
-gate-value-requires : tie.Need-gate-value-requires Inv-loop μ-loop
-gate-value-requires c κs = search needs
-
-mul-values : tie.Need-mul-values Inv-loop μ-loop
-mul-values c = search needs
-
-slice-write-values : tie.Need-slice-write-values Inv-loop μ-loop
-slice-write-values c = search needs
-
-add-i : tie.Need-add-i Inv-loop μ-loop
-add-i c = search needs
-
-loop-less : tie.Need-loop-less Inv-loop μ-loop
-loop-less c = search needs
-
 loop-again : tie.Need-loop-again Inv-loop μ-loop
 loop-again c =
     let t = c .before .before .before .before .before .before in
     layer-step _ _ _ _ _ (t .before .loop .i) (t .before .loop .inv) _ (t .loop-test .taken) (c .gate-value .ensures)
-
-same-length : tie.Need-same-length Inv-loop μ-loop
-same-length c = search needs
 
 returns : tie.Need-returns Inv-loop μ-loop
 returns c = layer-end _ _ _ _ _ (c .before .loop .i) (c .before .loop .inv) (search needs)
@@ -115,31 +70,6 @@ pub fill-layer-spec : {M : Type 1} → statement M
 fill-layer-spec =
     tie.close
     (tie.spec
-    Inv-loop
-    μ-loop
-    loop-holds
-    mul-g
-    add-x
-    mul-x
-    shared-slice-read-x
-    cast-x
-    add-x-2
-    mul-x-2
-    slice-read-x
-    add-y
-    mul-y
-    shared-slice-read-y
-    cast-y
-    add-y-2
-    mul-y-2
-    slice-read-y
-    mul-gate-value
-    shared-slice-read-gate-value
-    gate-value-requires
-    mul-values
-    slice-write-values
-    add-i
-    loop-less
-    loop-again
-    same-length
-    returns)
+    Inv-loop μ-loop loop-holds (λ c. search needs) (λ c. search needs) (λ c. search needs) (λ c. search needs) cast-x add-x-2 mul-x-2 slice-read-x
+    (λ c. search needs) (λ c. search needs) (λ c. search needs) cast-y add-y-2 mul-y-2 slice-read-y (λ c. search needs) (λ c. search needs)
+    (λ c κs. search needs) (λ c. search needs) (λ c. search needs) (λ c. search needs) (λ c. search needs) loop-again (λ c. search needs) returns)

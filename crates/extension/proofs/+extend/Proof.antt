@@ -37,56 +37,11 @@ module _ (t : ℕ) where
       let values = c .before .before .before .before .args .values .now in
       sym (halving-none _ values _ (search needs) ∙ List·getD-eq-default values 0 (search needs))
 
-  shared-slice-read-result : extend-lts.Need-shared-slice-read-result (claims t) (extend-at t) extend.Post
-  shared-slice-read-result c = search needs
-
   returns-2 : extend-lts.Need-returns-2 (claims t) (extend-at t) extend.Post
   returns-2 c = sym (halving-none _ _ _ (search needs))
 
   slice-aggregate-extend : extend-lts.Need-slice-aggregate-extend (claims t) (extend-at t) extend.Post
   slice-aggregate-extend c = sym (length-take-le _ _ (omega arith))
-
-  sub-extend : extend-lts.Need-sub-extend (claims t) (extend-at t) extend.Post
-  sub-extend c = search needs
-
-  part-extend-start : extend-lts.Need-part-extend-start (claims t) (extend-at t) extend.Post
-  part-extend-start c = search needs
-
-  part-extend-end : extend-lts.Need-part-extend-end (claims t) (extend-at t) extend.Post
-  part-extend-end c = search needs
-
-  extend-requires : extend-lts.Need-extend-requires (claims t) (extend-at t) extend.Post
-  extend-requires c κs = search needs
-
-  mul-extend : extend-lts.Need-mul-extend (claims t) (extend-at t) extend.Post
-  mul-extend c = search needs
-
-  sub-extend-2 : extend-lts.Need-sub-extend-2 (claims t) (extend-at t) extend.Post
-  sub-extend-2 c = search needs
-
-  part-extend-start-2 : extend-lts.Need-part-extend-start-2 (claims t) (extend-at t) extend.Post
-  part-extend-start-2 c = search needs
-
-  part-extend-end-2 : extend-lts.Need-part-extend-end-2 (claims t) (extend-at t) extend.Post
-  part-extend-end-2 c = search needs
-
-  sub-extend-3 : extend-lts.Need-sub-extend-3 (claims t) (extend-at t) extend.Post
-  sub-extend-3 c = search needs
-
-  part-extend-start-3 : extend-lts.Need-part-extend-start-3 (claims t) (extend-at t) extend.Post
-  part-extend-start-3 c = search needs
-
-  part-extend-end-3 : extend-lts.Need-part-extend-end-3 (claims t) (extend-at t) extend.Post
-  part-extend-end-3 c = search needs
-
-  extend-requires-2 : extend-lts.Need-extend-requires-2 (claims t) (extend-at t) extend.Post
-  extend-requires-2 c κs = search needs
-
-  shared-slice-read-between : extend-lts.Need-shared-slice-read-between (claims t) (extend-at t) extend.Post
-  shared-slice-read-between c = search needs
-
-  between-requires : extend-lts.Need-between-requires (claims t) (extend-at t) extend.Post
-  between-requires c κs = search needs
 
   returns-3 : extend-lts.Need-returns-3 (claims t) (extend-at t) extend.Post
   returns-3 c =
@@ -98,23 +53,6 @@ pub +extend-spec : {M : Type 1} → statement M
 +extend-spec =
     close μ-extend
     (λ t.
-    extend-lts.spec (claims t) (extend-at t) extend.Post
-    (returns t)
-    (shared-slice-read-result t)
-    (returns-2 t)
-    (slice-aggregate-extend t)
-    (sub-extend t)
-    (part-extend-start t)
-    (part-extend-end t)
-    (extend-requires t)
-    (mul-extend t)
-    (sub-extend-2 t)
-    (part-extend-start-2 t)
-    (part-extend-end-2 t)
-    (sub-extend-3 t)
-    (part-extend-start-3 t)
-    (part-extend-end-3 t)
-    (extend-requires-2 t)
-    (shared-slice-read-between t)
-    (between-requires t)
-    (returns-3 t))
+    extend-lts.spec (claims t) (extend-at t) extend.Post (returns t) (λ c. search needs) (returns-2 t) (slice-aggregate-extend t) (λ c. search needs)
+    (λ c. search needs) (λ c. search needs) (λ c κs. search needs) (λ c. search needs) (λ c. search needs) (λ c. search needs) (λ c. search needs)
+    (λ c. search needs) (λ c. search needs) (λ c. search needs) (λ c κs. search needs) (λ c. search needs) (λ c κs. search needs) (returns-3 t))

@@ -19,24 +19,6 @@ abbrev μ-loop : tie.MeasureT-loop
 loop-holds : tie.Need-loop-holds Inv-loop μ-loop
 loop-holds c = start _ _ _
 
-sub-left : tie.Need-sub-left Inv-loop μ-loop
-sub-left c = search needs
-
-mul-z : tie.Need-mul-z Inv-loop μ-loop
-mul-z c = search needs
-
-shared-slice-read-z : tie.Need-shared-slice-read-z Inv-loop μ-loop
-shared-slice-read-z c = search needs
-
-sub-requires : tie.Need-sub-requires Inv-loop μ-loop
-sub-requires c κs = search needs
-
-mul-requires : tie.Need-mul-requires Inv-loop μ-loop
-mul-requires c κs = search needs
-
-loop-less : tie.Need-loop-less Inv-loop μ-loop
-loop-less c = search needs
-
 loop-again : tie.Need-loop-again Inv-loop μ-loop
 loop-again c =
     let factor = c .before .if1 .factor in
@@ -56,14 +38,5 @@ pub weight-of-spec : {M : Type 1} → statement M
 weight-of-spec =
     tie.close
     (tie.spec
-    Inv-loop
-    μ-loop
-    loop-holds
-    sub-left
-    mul-z
-    shared-slice-read-z
-    sub-requires
-    mul-requires
-    loop-less
-    loop-again
-    returns)
+    Inv-loop μ-loop loop-holds (λ c. search needs) (λ c. search needs) (λ c. search needs) (λ c κs. search needs) (λ c κs. search needs)
+    (λ c. search needs) loop-again returns)

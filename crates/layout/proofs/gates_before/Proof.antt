@@ -42,18 +42,6 @@ returns c = record {
   counted = λ h. absurd (omega (arith, h .headed .shallow, h .inside, c .if1 .taken));
 }
 
-exponents-requires : tie.Need-exponents-requires Inv-loop μ-loop
-exponents-requires c κs = search needs
-
-exponent-requires : tie.Need-exponent-requires Inv-loop μ-loop
-exponent-requires c κs = search needs
-
-width-requires : tie.Need-width-requires Inv-loop μ-loop
-width-requires c κs = search needs
-
-least-requires : tie.Need-least-requires Inv-loop μ-loop
-least-requires c κs = search needs
-
 loop-holds : tie.Need-loop-holds Inv-loop μ-loop
 loop-holds c =
     let l = start c .args .circuit .now in
@@ -61,21 +49,6 @@ loop-holds c =
 
 add-count : tie.Need-add-count Inv-loop μ-loop
 add-count c = let w = small c in let n = few (c .before .before) in omega arith
-
-mul-width : tie.Need-mul-width Inv-loop μ-loop
-mul-width c = search needs
-
-shared-slice-read-width : tie.Need-shared-slice-read-width Inv-loop μ-loop
-shared-slice-read-width c = search needs
-
-width-requires-2 : tie.Need-width-requires-2 Inv-loop μ-loop
-width-requires-2 c κs = search needs
-
-add-i : tie.Need-add-i Inv-loop μ-loop
-add-i c = search needs
-
-loop-less : tie.Need-loop-less Inv-loop μ-loop
-loop-less c = search needs
 
 loop-again : tie.Need-loop-again Inv-loop μ-loop
 loop-again c =
@@ -108,19 +81,5 @@ pub gates-before-spec : {M : Type 1} → statement M
 gates-before-spec =
     tie.close
     (tie.spec
-    Inv-loop
-    μ-loop
-    returns
-    exponents-requires
-    exponent-requires
-    width-requires
-    least-requires
-    loop-holds
-    add-count
-    mul-width
-    shared-slice-read-width
-    width-requires-2
-    add-i
-    loop-less
-    loop-again
-    returns-2)
+    Inv-loop μ-loop returns (λ c κs. search needs) (λ c κs. search needs) (λ c κs. search needs) (λ c κs. search needs) loop-holds add-count
+    (λ c. search needs) (λ c. search needs) (λ c κs. search needs) (λ c. search needs) (λ c. search needs) loop-again returns-2)

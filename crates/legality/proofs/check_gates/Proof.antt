@@ -25,39 +25,6 @@ loop-holds c =
     let a = c .before .args in
     (search needs, ap (λ (n : ℕ). gatesCause (a .next) (gatesOf n (a .gates .now))) (sym (sub-zero (a .count))))
 
-mul-g : tie.Need-mul-g Inv-loop μ-loop
-mul-g c = search needs
-
-mul-check-gate : tie.Need-mul-check-gate Inv-loop μ-loop
-mul-check-gate c = search needs
-
-shared-slice-read-check-gate : tie.Need-shared-slice-read-check-gate Inv-loop μ-loop
-shared-slice-read-check-gate c = search needs
-
-add-check-gate : tie.Need-add-check-gate Inv-loop μ-loop
-add-check-gate c = search needs
-
-mul-check-gate-2 : tie.Need-mul-check-gate-2 Inv-loop μ-loop
-mul-check-gate-2 c = search needs
-
-shared-slice-read-check-gate-2 : tie.Need-shared-slice-read-check-gate-2 Inv-loop μ-loop
-shared-slice-read-check-gate-2 c = search needs
-
-add-check-gate-2 : tie.Need-add-check-gate-2 Inv-loop μ-loop
-add-check-gate-2 c = search needs
-
-mul-check-gate-3 : tie.Need-mul-check-gate-3 Inv-loop μ-loop
-mul-check-gate-3 c = search needs
-
-shared-slice-read-check-gate-3 : tie.Need-shared-slice-read-check-gate-3 Inv-loop μ-loop
-shared-slice-read-check-gate-3 c = search needs
-
-check-gate-requires : tie.Need-check-gate-requires Inv-loop μ-loop
-check-gate-requires c κs = search needs
-
-enum-known-checked : tie.Need-enum-known-checked Inv-loop μ-loop
-enum-known-checked c = search needs
-
 returns : tie.Need-returns Inv-loop μ-loop
 returns c =
     let told = c .before in
@@ -66,15 +33,6 @@ returns c =
     let checked = told .checked .given in
     sym (at .loop .inv .1 ∙ gates-at (a .next) (a .count) (at .loop .i) (a .gates .now) (search needs)
     ∙ refused-first (checked .0 .0) _ _ (refusal-told (checked .1) (told .before .before .check-gate .ensures)))
-
-enum-told : tie.Need-enum-told Inv-loop μ-loop
-enum-told c = search needs
-
-add-i : tie.Need-add-i Inv-loop μ-loop
-add-i c = search needs
-
-loop-less : tie.Need-loop-less Inv-loop μ-loop
-loop-less c = search needs
 
 loop-again : tie.Need-loop-again Inv-loop μ-loop
 loop-again c =
@@ -94,23 +52,6 @@ pub check-gates-spec : {M : Type 1} → statement M
 check-gates-spec =
     tie.close
     (tie.spec
-    Inv-loop
-    μ-loop
-    loop-holds
-    mul-g
-    mul-check-gate
-    shared-slice-read-check-gate
-    add-check-gate
-    mul-check-gate-2
-    shared-slice-read-check-gate-2
-    add-check-gate-2
-    mul-check-gate-3
-    shared-slice-read-check-gate-3
-    check-gate-requires
-    enum-known-checked
-    returns
-    enum-told
-    add-i
-    loop-less
-    loop-again
-    returns-2)
+    Inv-loop μ-loop loop-holds (λ c. search needs) (λ c. search needs) (λ c. search needs) (λ c. search needs) (λ c. search needs) (λ c. search needs)
+    (λ c. search needs) (λ c. search needs) (λ c. search needs) (λ c κs. search needs) (λ c. search needs) returns (λ c. search needs)
+    (λ c. search needs) (λ c. search needs) loop-again returns-2)

@@ -59,33 +59,12 @@ room t = layer-room _ (start t .pre) _ _ _ (at t .loop .inv .1) (inside t) (gate
 few : (t : Turn) → at t .loop .from + at t .loop .count ≤ maxGates
 few t = layer-few _ (start t .pre) _ _ _ (at t .loop .inv .1) (inside t)
 
-exponents-requires : tie.Need-exponents-requires Inv-loop μ-loop
-exponents-requires c κs = search needs
-
-all-gates-requires : tie.Need-all-gates-requires Inv-loop μ-loop
-all-gates-requires c κs = search needs
-
-exponent-requires : tie.Need-exponent-requires Inv-loop μ-loop
-exponent-requires c κs = search needs
-
-width-requires : tie.Need-width-requires Inv-loop μ-loop
-width-requires c κs = search needs
-
 loop-holds : tie.Need-loop-holds Inv-loop μ-loop
 loop-holds c =
     let start = c .before .before .before .before .before in (
       ap length (c .before .before .before .exponents .ensures) ∙ start .pre .headed .whole,
       checks-start (start .args .circuit .now) (start .pre) _ (c .width .ensures ∙ ap widthOf (c .before .exponent .ensures)),
     )
-
-mul-width : tie.Need-mul-width Inv-loop μ-loop
-mul-width c = search needs
-
-shared-slice-read-width : tie.Need-shared-slice-read-width Inv-loop μ-loop
-shared-slice-read-width c = search needs
-
-width-requires-2 : tie.Need-width-requires-2 Inv-loop μ-loop
-width-requires-2 c κs = search needs
 
 mul-check-gates : tie.Need-mul-check-gates Inv-loop μ-loop
 mul-check-gates c = let n = few c in omega arith
@@ -107,9 +86,6 @@ check-gates-requires c κs =
     let t = c .before in
     rw (rest t) (layer-there _ (start t .pre) _ _ _ (at t .loop .inv .1) (inside t))
 
-enum-known-checked : tie.Need-enum-known-checked Inv-loop μ-loop
-enum-known-checked c = search needs
-
 returns : tie.Need-returns Inv-loop μ-loop
 returns c =
     let told = c .before in
@@ -119,17 +95,8 @@ returns c =
     sym (layer-refused _ (start t .pre) _ _ _ (at t .loop .inv .1) (inside t) _ (next t) (checked .0 .0)
     (refusal-told (checked .1) (rw (rest t) at (done .check-gates .ensures))))
 
-enum-told : tie.Need-enum-told Inv-loop μ-loop
-enum-told c = search needs
-
 add-from : tie.Need-add-from Inv-loop μ-loop
 add-from c = let n = few (c .before .before .before .before) in omega arith
-
-add-layer : tie.Need-add-layer Inv-loop μ-loop
-add-layer c = search needs
-
-loop-less : tie.Need-loop-less Inv-loop μ-loop
-loop-less c = search needs
 
 loop-again : tie.Need-loop-again Inv-loop μ-loop
 loop-again c =
@@ -150,27 +117,6 @@ pub check-layers-spec : {M : Type 1} → statement M
 check-layers-spec =
     tie.close
     (tie.spec
-    Inv-loop
-    μ-loop
-    exponents-requires
-    all-gates-requires
-    exponent-requires
-    width-requires
-    loop-holds
-    mul-width
-    shared-slice-read-width
-    width-requires-2
-    mul-check-gates
-    mul-check-gates-2
-    sub-check-gates
-    part-check-gates-start
-    part-check-gates-end
-    check-gates-requires
-    enum-known-checked
-    returns
-    enum-told
-    add-from
-    add-layer
-    loop-less
-    loop-again
-    returns-2)
+    Inv-loop μ-loop (λ c κs. search needs) (λ c κs. search needs) (λ c κs. search needs) (λ c κs. search needs) loop-holds (λ c. search needs)
+    (λ c. search needs) (λ c κs. search needs) mul-check-gates mul-check-gates-2 sub-check-gates part-check-gates-start part-check-gates-end
+    check-gates-requires (λ c. search needs) returns (λ c. search needs) add-from (λ c. search needs) (λ c. search needs) loop-again returns-2)

@@ -53,15 +53,6 @@ module _ (t : ℕ) where
   abbrev lower : Upper → Lower
   lower u = u .before .before .before .before .before .before .before
 
-  first-requires : halves-lts.Need-first-requires (claims t) (halves-at t) halves.Post
-  first-requires c κs = search needs
-
-  slice-write-row : halves-lts.Need-slice-write-row (claims t) (halves-at t) halves.Post
-  slice-write-row c = search needs
-
-  same-length : halves-lts.Need-same-length (claims t) (halves-at t) halves.Post
-  same-length c = search needs
-
   returns : halves-lts.Need-returns (claims t) (halves-at t) halves.Post
   returns c =
       let entry = c .before .before .before .before .before .before in
@@ -69,41 +60,8 @@ module _ (t : ℕ) where
       ap (set (entry .args .row .now) 0) (c .first .ensures)
       ∙ from-first (numbers (entry .args .f)) (entry .args .values .now) (entry .args .u .now) (entry .args .v .now) (entry .args .row .now) (omega arith) (search needs)
 
-  shared-slice-read-x : halves-lts.Need-shared-slice-read-x (claims t) (halves-at t) halves.Post
-  shared-slice-read-x c = search needs
-
-  shared-slice-read-sub : halves-lts.Need-shared-slice-read-sub (claims t) (halves-at t) halves.Post
-  shared-slice-read-sub c = search needs
-
-  sub-requires : halves-lts.Need-sub-requires (claims t) (halves-at t) halves.Post
-  sub-requires c κs = search needs
-
   slice-aggregate-first : halves-lts.Need-slice-aggregate-first (claims t) (halves-at t) halves.Post
   slice-aggregate-first c = sym (length-take-le _ _ (omega arith))
-
-  first-requires-2 : halves-lts.Need-first-requires-2 (claims t) (halves-at t) halves.Post
-  first-requires-2 c κs = search needs
-
-  slice-write-row-2 : halves-lts.Need-slice-write-row-2 (claims t) (halves-at t) halves.Post
-  slice-write-row-2 c = search needs
-
-  mul-first : halves-lts.Need-mul-first (claims t) (halves-at t) halves.Post
-  mul-first c = search needs
-
-  sub-first : halves-lts.Need-sub-first (claims t) (halves-at t) halves.Post
-  sub-first c = search needs
-
-  part-first-start : halves-lts.Need-part-first-start (claims t) (halves-at t) halves.Post
-  part-first-start c = search needs
-
-  part-first-end : halves-lts.Need-part-first-end (claims t) (halves-at t) halves.Post
-  part-first-end c = search needs
-
-  first-requires-3 : halves-lts.Need-first-requires-3 (claims t) (halves-at t) halves.Post
-  first-requires-3 c κs = search needs
-
-  slice-aggregate-along : halves-lts.Need-slice-aggregate-along (claims t) (halves-at t) halves.Post
-  slice-aggregate-along c = search needs
 
   along-requires : halves-lts.Need-along-requires (claims t) (halves-at t) halves.Post
   along-requires c κs =
@@ -134,66 +92,6 @@ module _ (t : ℕ) where
   slice-aggregate-halves : halves-lts.Need-slice-aggregate-halves (claims t) (halves-at t) halves.Post
   slice-aggregate-halves c = sym (length-take-le _ _ (omega arith))
 
-  sub-halves : halves-lts.Need-sub-halves (claims t) (halves-at t) halves.Post
-  sub-halves c = search needs
-
-  part-halves-start : halves-lts.Need-part-halves-start (claims t) (halves-at t) halves.Post
-  part-halves-start c = search needs
-
-  part-halves-end : halves-lts.Need-part-halves-end (claims t) (halves-at t) halves.Post
-  part-halves-end c = search needs
-
-  sub-halves-2 : halves-lts.Need-sub-halves-2 (claims t) (halves-at t) halves.Post
-  sub-halves-2 c = search needs
-
-  part-halves-start-2 : halves-lts.Need-part-halves-start-2 (claims t) (halves-at t) halves.Post
-  part-halves-start-2 c = search needs
-
-  part-halves-end-2 : halves-lts.Need-part-halves-end-2 (claims t) (halves-at t) halves.Post
-  part-halves-end-2 c = search needs
-
-  halves-requires : halves-lts.Need-halves-requires (claims t) (halves-at t) halves.Post
-  halves-requires c κs = search needs
-
-  mul-halves : halves-lts.Need-mul-halves (claims t) (halves-at t) halves.Post
-  mul-halves c = search needs
-
-  sub-halves-3 : halves-lts.Need-sub-halves-3 (claims t) (halves-at t) halves.Post
-  sub-halves-3 c = search needs
-
-  part-halves-start-3 : halves-lts.Need-part-halves-start-3 (claims t) (halves-at t) halves.Post
-  part-halves-start-3 c = search needs
-
-  part-halves-end-3 : halves-lts.Need-part-halves-end-3 (claims t) (halves-at t) halves.Post
-  part-halves-end-3 c = search needs
-
-  sub-halves-4 : halves-lts.Need-sub-halves-4 (claims t) (halves-at t) halves.Post
-  sub-halves-4 c = search needs
-
-  part-halves-start-4 : halves-lts.Need-part-halves-start-4 (claims t) (halves-at t) halves.Post
-  part-halves-start-4 c = search needs
-
-  part-halves-end-4 : halves-lts.Need-part-halves-end-4 (claims t) (halves-at t) halves.Post
-  part-halves-end-4 c = search needs
-
-  sub-halves-5 : halves-lts.Need-sub-halves-5 (claims t) (halves-at t) halves.Post
-  sub-halves-5 c = search needs
-
-  part-halves-start-5 : halves-lts.Need-part-halves-start-5 (claims t) (halves-at t) halves.Post
-  part-halves-start-5 c = search needs
-
-  part-halves-end-5 : halves-lts.Need-part-halves-end-5 (claims t) (halves-at t) halves.Post
-  part-halves-end-5 c = search needs
-
-  slice-aggregate-halves-2 : halves-lts.Need-slice-aggregate-halves-2 (claims t) (halves-at t) halves.Post
-  slice-aggregate-halves-2 c = search needs
-
-  halves-requires-2 : halves-lts.Need-halves-requires-2 (claims t) (halves-at t) halves.Post
-  halves-requires-2 c κs = search needs
-
-  array-share-prefix-upper : halves-lts.Need-array-share-prefix-upper (claims t) (halves-at t) halves.Post
-  array-share-prefix-upper c = search needs
-
   slice-aggregate-along-2 : halves-lts.Need-slice-aggregate-along-2 (claims t) (halves-at t) halves.Post
   slice-aggregate-along-2 c =
       let u = c .before .before .before in
@@ -211,9 +109,6 @@ module _ (t : ℕ) where
       let size = u .halves2 .kept .1 .1 .1 .1 .0 in
       let kept = lower u .halves .kept .1 .1 .1 .1 .0 in
       rw (length-take-le (length (entry .args .u .now)) (u .halves2 .last .1 .1 .1 .1 .0) (omega arith)) (omega arith)
-
-  same-length-3 : halves-lts.Need-same-length-3 (claims t) (halves-at t) halves.Post
-  same-length-3 c = search needs
 
   returns-3 : halves-lts.Need-returns-3 (claims t) (halves-at t) halves.Post
   returns-3 c =
@@ -237,48 +132,10 @@ pub +halves-spec : {M : Type 1} → statement M
 +halves-spec =
     close μ-halves
     (λ t.
-    halves-lts.spec (claims t) (halves-at t) halves.Post
-    (first-requires t)
-    (slice-write-row t)
-    (same-length t)
-    (returns t)
-    (shared-slice-read-x t)
-    (shared-slice-read-sub t)
-    (sub-requires t)
-    (slice-aggregate-first t)
-    (first-requires-2 t)
-    (slice-write-row-2 t)
-    (mul-first t)
-    (sub-first t)
-    (part-first-start t)
-    (part-first-end t)
-    (first-requires-3 t)
-    (slice-aggregate-along t)
-    (along-requires t)
-    (same-length-2 t)
-    (returns-2 t)
-    (slice-aggregate-halves t)
-    (sub-halves t)
-    (part-halves-start t)
-    (part-halves-end t)
-    (sub-halves-2 t)
-    (part-halves-start-2 t)
-    (part-halves-end-2 t)
-    (halves-requires t)
-    (mul-halves t)
-    (sub-halves-3 t)
-    (part-halves-start-3 t)
-    (part-halves-end-3 t)
-    (sub-halves-4 t)
-    (part-halves-start-4 t)
-    (part-halves-end-4 t)
-    (sub-halves-5 t)
-    (part-halves-start-5 t)
-    (part-halves-end-5 t)
-    (slice-aggregate-halves-2 t)
-    (halves-requires-2 t)
-    (array-share-prefix-upper t)
-    (slice-aggregate-along-2 t)
-    (along-requires-2 t)
-    (same-length-3 t)
-    (returns-3 t))
+    halves-lts.spec (claims t) (halves-at t) halves.Post (λ c κs. search needs) (λ c. search needs) (λ c. search needs) (returns t)
+    (λ c. search needs) (λ c. search needs) (λ c κs. search needs) (slice-aggregate-first t) (λ c κs. search needs) (λ c. search needs)
+    (λ c. search needs) (λ c. search needs) (λ c. search needs) (λ c. search needs) (λ c κs. search needs) (λ c. search needs) (along-requires t)
+    (same-length-2 t) (returns-2 t) (slice-aggregate-halves t) (λ c. search needs) (λ c. search needs) (λ c. search needs) (λ c. search needs)
+    (λ c. search needs) (λ c. search needs) (λ c κs. search needs) (λ c. search needs) (λ c. search needs) (λ c. search needs) (λ c. search needs)
+    (λ c. search needs) (λ c. search needs) (λ c. search needs) (λ c. search needs) (λ c. search needs) (λ c. search needs) (λ c. search needs)
+    (λ c κs. search needs) (λ c. search needs) (slice-aggregate-along-2 t) (along-requires-2 t) (λ c. search needs) (returns-3 t))

@@ -19,29 +19,11 @@ abbrev μ-loop : tie.MeasureT-loop
 loop-holds : tie.Need-loop-holds Inv-loop μ-loop
 loop-holds c = first-layer _ (c .before .pre .0) _
 
-exponent-requires : tie.Need-exponent-requires Inv-loop μ-loop
-exponent-requires c κs = search needs
-
-cast-line : tie.Need-cast-line Inv-loop μ-loop
-cast-line c = search needs
-
-mul-line : tie.Need-mul-line Inv-loop μ-loop
-mul-line c = search needs
-
-add-round : tie.Need-add-round Inv-loop μ-loop
-add-round c = search needs
-
-sub-round : tie.Need-sub-round Inv-loop μ-loop
-sub-round c = search needs
-
 add-layer : tie.Need-add-layer Inv-loop μ-loop
 add-layer c =
     let at = c .before .before .loop in
     let low = c .before .before .before .before .pre .0 .sized .headed .shallow in
     omega (arith, low, at .inv .1)
-
-loop-less : tie.Need-loop-less Inv-loop μ-loop
-loop-less c = search needs
 
 loop-again : tie.Need-loop-again Inv-loop μ-loop
 loop-again c =
@@ -59,15 +41,5 @@ pub place-after-spec : {M : Type 1} → statement M
 place-after-spec =
     tie.close
     (tie.spec
-    Inv-loop
-    μ-loop
-    loop-holds
-    exponent-requires
-    cast-line
-    mul-line
-    add-round
-    sub-round
-    add-layer
-    loop-less
-    loop-again
-    returns)
+    Inv-loop μ-loop loop-holds (λ c κs. search needs) (λ c. search needs) (λ c. search needs) (λ c. search needs) (λ c. search needs) add-layer
+    (λ c. search needs) loop-again returns)

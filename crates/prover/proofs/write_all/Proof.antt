@@ -108,20 +108,8 @@ module _ (t : Turn) where
       writable _ _ (start (layer t) .pre .given .lists) _ (held (layer t)) _ _ _ part spot
       (lent-room _ _ _ _ (can (layer t)) _ _ _ _ _ (t .before .loop2 .inv .3) more)
 
-slice-aggregate-fill-values : tie.Need-slice-aggregate-fill-values Inv-loop2 μ-loop2 Inv-loop μ-loop
-slice-aggregate-fill-values c = search needs
-
 fill-values-requires : tie.Need-fill-values-requires Inv-loop2 μ-loop2 Inv-loop μ-loop
 fill-values-requires c κs = (c .before .before .before .before .before .pre .given .lists, length-replicate {A = ℕ} maxValues 0)
-
-coins-before-requires : tie.Need-coins-before-requires Inv-loop2 μ-loop2 Inv-loop μ-loop
-coins-before-requires c κs = search needs
-
-depth-requires : tie.Need-depth-requires Inv-loop2 μ-loop2 Inv-loop μ-loop
-depth-requires c κs = search needs
-
-add-layer-end : tie.Need-add-layer-end Inv-loop2 μ-loop2 Inv-loop μ-loop
-add-layer-end c = search needs
 
 loop-holds : tie.Need-loop-holds Inv-loop2 μ-loop2 Inv-loop μ-loop
 loop-holds c =
@@ -129,18 +117,6 @@ loop-holds c =
       ap (λ (n : ℕ). n + 1) (c .depth .ensures .0),
       all-start _ _ _ _ (begin .pre) _ (c .before .coins-before .ensures (first-layer _ _ (begin .args .coins .now) _ (begin .pre))),
     )
-
-exponent-requires : tie.Need-exponent-requires Inv-loop2 μ-loop2 Inv-loop μ-loop
-exponent-requires c κs = search needs
-
-cast-round-end : tie.Need-cast-round-end Inv-loop2 μ-loop2 Inv-loop μ-loop
-cast-round-end c = search needs
-
-mul-round-end : tie.Need-mul-round-end Inv-loop2 μ-loop2 Inv-loop μ-loop
-mul-round-end c = search needs
-
-add-round-end : tie.Need-add-round-end Inv-loop2 μ-loop2 Inv-loop μ-loop
-add-round-end c = search needs
 
 loop2-holds : tie.Need-loop2-holds Inv-loop2 μ-loop2 Inv-loop μ-loop
 loop2-holds c =
@@ -154,9 +130,6 @@ loop2-holds c =
 slice-aggregate-write-message : tie.Need-slice-aggregate-write-message Inv-loop2 μ-loop2 Inv-loop μ-loop
 slice-aggregate-write-message c = let there = coin (c .before) in sym (length-take-le _ _ (omega arith))
 
-slice-aggregate-write-message-2 : tie.Need-slice-aggregate-write-message-2 Inv-loop2 μ-loop2 Inv-loop μ-loop
-slice-aggregate-write-message-2 c = search needs
-
 mul-write-message : tie.Need-mul-write-message Inv-loop2 μ-loop2 Inv-loop μ-loop
 mul-write-message c = let fits = inside (c .before .before) in search needs
 
@@ -168,12 +141,6 @@ part-write-message-start c = let fits = inside (c .before .before) in search nee
 
 part-write-message-end : tie.Need-part-write-message-end Inv-loop2 μ-loop2 Inv-loop μ-loop
 part-write-message-end c = let fits = inside (c .before .before) in search needs
-
-write-message-requires : tie.Need-write-message-requires Inv-loop2 μ-loop2 Inv-loop μ-loop
-write-message-requires c κs = search needs
-
-message-length-requires : tie.Need-message-length-requires Inv-loop2 μ-loop2 Inv-loop μ-loop
-message-length-requires c κs = search needs
 
 add-at : tie.Need-add-at Inv-loop2 μ-loop2 Inv-loop μ-loop
 add-at c =
@@ -188,12 +155,6 @@ add-at c =
 
 add-n : tie.Need-add-n Inv-loop2 μ-loop2 Inv-loop μ-loop
 add-n c = let there = coin (c .before .before .before .before .before .before .before) in search needs
-
-add-round : tie.Need-add-round Inv-loop2 μ-loop2 Inv-loop μ-loop
-add-round c = search needs
-
-loop2-less : tie.Need-loop2-less Inv-loop2 μ-loop2 Inv-loop μ-loop
-loop2-less c = search needs
 
 loop2-again : tie.Need-loop2-again Inv-loop2 μ-loop2 Inv-loop μ-loop
 loop2-again c =
@@ -248,37 +209,8 @@ pub write-all-spec : {M : Type 1} → statement M
 write-all-spec =
     tie.close
     (tie.spec
-    Inv-loop2
-    μ-loop2
-    Inv-loop
-    μ-loop
-    slice-aggregate-fill-values
-    fill-values-requires
-    coins-before-requires
-    depth-requires
-    add-layer-end
-    loop-holds
-    exponent-requires
-    cast-round-end
-    mul-round-end
-    add-round-end
-    loop2-holds
-    slice-aggregate-write-message
-    slice-aggregate-write-message-2
-    mul-write-message
-    sub-write-message
-    part-write-message-start
-    part-write-message-end
-    write-message-requires
-    message-length-requires
-    add-at
-    add-n
-    add-round
-    loop2-less
-    loop2-again
-    add-layer
-    loop-less
-    loop-again
-    array-read-t33
-    same-length
+    Inv-loop2 μ-loop2 Inv-loop μ-loop (λ c. search needs) fill-values-requires (λ c κs. search needs) (λ c κs. search needs) (λ c. search needs)
+    loop-holds (λ c κs. search needs) (λ c. search needs) (λ c. search needs) (λ c. search needs) loop2-holds slice-aggregate-write-message
+    (λ c. search needs) mul-write-message sub-write-message part-write-message-start part-write-message-end (λ c κs. search needs)
+    (λ c κs. search needs) add-at add-n (λ c. search needs) (λ c. search needs) loop2-again add-layer loop-less loop-again array-read-t33 same-length
     returns)

@@ -24,9 +24,6 @@ abbrev μ-loop : tie.MeasureT-loop
 part : (k : tie.After-exponent Inv-loop μ-loop) → k .before .before .before .before .before .args .a * k .exponent .result ≤ 30064771072
 part k = times-small _ (k .exponent .result) (k .before .before .before .before .before .pre) (search needs)
 
-add-if1 : tie.Need-add-if1 Inv-loop μ-loop
-add-if1 c = search needs
-
 returns : tie.Need-returns Inv-loop μ-loop
 returns c h =
     let low = h .legal .sized .headed .shallow in
@@ -37,12 +34,6 @@ loop-holds : tie.Need-loop-holds Inv-loop μ-loop
 loop-holds c =
     let a = c .before .before .args in
     (search needs, search needs, search needs, λ h. (h .first, sum-first (a .circuit .now) (a .first) (a .a)))
-
-exponent-requires : tie.Need-exponent-requires Inv-loop μ-loop
-exponent-requires c κs = search needs
-
-cast-sum : tie.Need-cast-sum Inv-loop μ-loop
-cast-sum c = search needs
 
 mul-sum : tie.Need-mul-sum Inv-loop μ-loop
 mul-sum c =
@@ -58,12 +49,6 @@ add-sum-2 : tie.Need-add-sum-2 Inv-loop μ-loop
 add-sum-2 c =
     let more = part c in
     omega (arith, c .before .before .loop .inv .2, c .before .before .loop .inv .1)
-
-add-i : tie.Need-add-i Inv-loop μ-loop
-add-i c = search needs
-
-loop-less : tie.Need-loop-less Inv-loop μ-loop
-loop-less c = search needs
 
 loop-again : tie.Need-loop-again Inv-loop μ-loop
 loop-again c =
@@ -93,17 +78,5 @@ pub sum-layers-spec : {M : Type 1} → statement M
 sum-layers-spec =
     tie.close
     (tie.spec
-    Inv-loop
-    μ-loop
-    add-if1
-    returns
-    loop-holds
-    exponent-requires
-    cast-sum
-    mul-sum
-    add-sum
-    add-sum-2
-    add-i
-    loop-less
-    loop-again
-    returns-2)
+    Inv-loop μ-loop (λ c. search needs) returns loop-holds (λ c κs. search needs) (λ c. search needs) mul-sum add-sum add-sum-2 (λ c. search needs)
+    (λ c. search needs) loop-again returns-2)

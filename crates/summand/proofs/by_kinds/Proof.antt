@@ -19,40 +19,10 @@ abbrev μ-loop : tie.MeasureT-loop
 loop-holds : tie.Need-loop-holds Inv-loop μ-loop
 loop-holds c = none-added _ _ _ _ (good-length (eInt w32) maxKind (c .args .t2) _ (c .good .1 .0))
 
-sub-i : tie.Need-sub-i Inv-loop μ-loop
-sub-i c = search needs
-
-mul-sum : tie.Need-mul-sum Inv-loop μ-loop
-mul-sum c = search needs
-
-array-read-sum : tie.Need-array-read-sum Inv-loop μ-loop
-array-read-sum c = search needs
-
-cast-gate-value : tie.Need-cast-gate-value Inv-loop μ-loop
-cast-gate-value c = search needs
-
-add-gate-value : tie.Need-add-gate-value Inv-loop μ-loop
-add-gate-value c = search needs
-
-gate-value-requires : tie.Need-gate-value-requires Inv-loop μ-loop
-gate-value-requires c κs = search needs
-
-mul-requires : tie.Need-mul-requires Inv-loop μ-loop
-mul-requires c κs = search needs
-
-add-requires : tie.Need-add-requires Inv-loop μ-loop
-add-requires c κs = search needs
-
-loop-less : tie.Need-loop-less Inv-loop μ-loop
-loop-less c = search needs
-
 loop-again : tie.Need-loop-again Inv-loop μ-loop
 loop-again c =
     let chosen = c .before .before .before in
     one-added _ _ _ _ _ _ (chosen .before .before .loop .inv) (search needs) _ _ (c .before .before .gate-value .ensures) cc
-
-loop-less-2 : tie.Need-loop-less-2 Inv-loop μ-loop
-loop-less-2 c = search needs
 
 loop-again-2 : tie.Need-loop-again-2 Inv-loop μ-loop
 loop-again-2 c = zero-added _ _ _ _ _ _ (c .before .before .loop .inv) (search needs) (omega arith) (c .if1 .left)
@@ -64,19 +34,5 @@ pub by-kinds-spec : {M : Type 1} → statement M
 by-kinds-spec =
     tie.close
     (tie.spec
-    Inv-loop
-    μ-loop
-    loop-holds
-    sub-i
-    mul-sum
-    array-read-sum
-    cast-gate-value
-    add-gate-value
-    gate-value-requires
-    mul-requires
-    add-requires
-    loop-less
-    loop-again
-    loop-less-2
-    loop-again-2
-    returns)
+    Inv-loop μ-loop loop-holds (λ c. search needs) (λ c. search needs) (λ c. search needs) (λ c. search needs) (λ c. search needs)
+    (λ c κs. search needs) (λ c κs. search needs) (λ c κs. search needs) (λ c. search needs) loop-again (λ c. search needs) loop-again-2 returns)

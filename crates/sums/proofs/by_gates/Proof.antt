@@ -17,76 +17,16 @@ Inv-loop f gates weights lshares ltable lcut rshares rtable rcut zeros₀ ones�
 abbrev μ-loop : tie.MeasureT-loop
 μ-loop f gates weights lshares ltable lcut rshares rtable rcut zeros₀ ones₀ squares₀ a₀ zeros ones squares a = a
 
-empty-requires : tie.Need-empty-requires Inv-loop μ-loop
-empty-requires c κs = search needs
-
-empty-requires-2 : tie.Need-empty-requires-2 Inv-loop μ-loop
-empty-requires-2 c κs = search needs
-
-empty-requires-3 : tie.Need-empty-requires-3 Inv-loop μ-loop
-empty-requires-3 c κs = search needs
-
 loop-holds : tie.Need-loop-holds Inv-loop μ-loop
 loop-holds c =
     let p = modulus (c .before .before .before .before .before .before .before .before .before .args .f) in
     start _ _ _ _ _ (c .before .before .empty .ensures p) (c .before .empty2 .ensures p) (c .empty3 .ensures p)
-
-sub-a : tie.Need-sub-a Inv-loop μ-loop
-sub-a c = search needs
-
-mul-g : tie.Need-mul-g Inv-loop μ-loop
-mul-g c = search needs
-
-add-read-wire : tie.Need-add-read-wire Inv-loop μ-loop
-add-read-wire c = search needs
-
-mul-read-wire : tie.Need-mul-read-wire Inv-loop μ-loop
-mul-read-wire c = search needs
-
-shared-slice-read-read-wire : tie.Need-shared-slice-read-read-wire Inv-loop μ-loop
-shared-slice-read-read-wire c = search needs
-
-read-wire-requires : tie.Need-read-wire-requires Inv-loop μ-loop
-read-wire-requires c κs = search needs
-
-add-read-wire-2 : tie.Need-add-read-wire-2 Inv-loop μ-loop
-add-read-wire-2 c = search needs
-
-mul-read-wire-2 : tie.Need-mul-read-wire-2 Inv-loop μ-loop
-mul-read-wire-2 c = search needs
-
-shared-slice-read-read-wire-2 : tie.Need-shared-slice-read-read-wire-2 Inv-loop μ-loop
-shared-slice-read-read-wire-2 c = search needs
-
-read-wire-requires-2 : tie.Need-read-wire-requires-2 Inv-loop μ-loop
-read-wire-requires-2 c κs = search needs
 
 mul-count-gate : tie.Need-mul-count-gate Inv-loop μ-loop
 mul-count-gate c =
     let start = c .before .before .before .before .before .before .before .before .before .before .before .before .before .before .before in
     let gates = start .args .gates in
     search needs
-
-shared-slice-read-count-gate : tie.Need-shared-slice-read-count-gate Inv-loop μ-loop
-shared-slice-read-count-gate c = search needs
-
-word-requires : tie.Need-word-requires Inv-loop μ-loop
-word-requires c κs = search needs
-
-count-gate-requires : tie.Need-count-gate-requires Inv-loop μ-loop
-count-gate-requires c κs = search needs
-
-plus-requires : tie.Need-plus-requires Inv-loop μ-loop
-plus-requires c κs = search needs
-
-plus-requires-2 : tie.Need-plus-requires-2 Inv-loop μ-loop
-plus-requires-2 c κs = search needs
-
-plus-requires-3 : tie.Need-plus-requires-3 Inv-loop μ-loop
-plus-requires-3 c κs = search needs
-
-loop-less : tie.Need-loop-less Inv-loop μ-loop
-loop-less c = search needs
 
 loop-again : tie.Need-loop-again Inv-loop μ-loop
 loop-again c =
@@ -104,21 +44,6 @@ loop-again c =
       counts = counted .count-gate .ensures;
     })
 
-residue-requires : tie.Need-residue-requires Inv-loop μ-loop
-residue-requires c κs = search needs
-
-residue-requires-2 : tie.Need-residue-requires-2 Inv-loop μ-loop
-residue-requires-2 c κs = search needs
-
-residue-requires-3 : tie.Need-residue-requires-3 Inv-loop μ-loop
-residue-requires-3 c κs = search needs
-
-sub-requires : tie.Need-sub-requires Inv-loop μ-loop
-sub-requires c κs = search needs
-
-sub-requires-2 : tie.Need-sub-requires-2 Inv-loop μ-loop
-sub-requires-2 c κs = search needs
-
 returns : tie.Need-returns Inv-loop μ-loop
 returns c =
     let constant = c .before .before .before .before in
@@ -131,34 +56,8 @@ pub by-gates-spec : {M : Type 1} → statement M
 by-gates-spec =
     tie.close
     (tie.spec
-    Inv-loop
-    μ-loop
-    empty-requires
-    empty-requires-2
-    empty-requires-3
-    loop-holds
-    sub-a
-    mul-g
-    add-read-wire
-    mul-read-wire
-    shared-slice-read-read-wire
-    read-wire-requires
-    add-read-wire-2
-    mul-read-wire-2
-    shared-slice-read-read-wire-2
-    read-wire-requires-2
-    mul-count-gate
-    shared-slice-read-count-gate
-    word-requires
-    count-gate-requires
-    plus-requires
-    plus-requires-2
-    plus-requires-3
-    loop-less
-    loop-again
-    residue-requires
-    residue-requires-2
-    residue-requires-3
-    sub-requires
-    sub-requires-2
-    returns)
+    Inv-loop μ-loop (λ c κs. search needs) (λ c κs. search needs) (λ c κs. search needs) loop-holds (λ c. search needs) (λ c. search needs)
+    (λ c. search needs) (λ c. search needs) (λ c. search needs) (λ c κs. search needs) (λ c. search needs) (λ c. search needs) (λ c. search needs)
+    (λ c κs. search needs) mul-count-gate (λ c. search needs) (λ c κs. search needs) (λ c κs. search needs) (λ c κs. search needs)
+    (λ c κs. search needs) (λ c κs. search needs) (λ c. search needs) loop-again (λ c κs. search needs) (λ c κs. search needs) (λ c κs. search needs)
+    (λ c κs. search needs) (λ c κs. search needs) returns)

@@ -17,47 +17,8 @@ Inv-loop f table₀ r half by b₀ table b = Fold (numbers f) r table₀ table b
 abbrev μ-loop : tie.MeasureT-loop
 μ-loop f table₀ r half by b₀ table b = half - b
 
-multiplier-requires : tie.Need-multiplier-requires Inv-loop μ-loop
-multiplier-requires c κs = search needs
-
 loop-holds : tie.Need-loop-holds Inv-loop μ-loop
 loop-holds c = start _ _ _
-
-mul-low : tie.Need-mul-low Inv-loop μ-loop
-mul-low c = search needs
-
-slice-read-low : tie.Need-slice-read-low Inv-loop μ-loop
-slice-read-low c = search needs
-
-add-sub : tie.Need-add-sub Inv-loop μ-loop
-add-sub c = search needs
-
-mul-sub : tie.Need-mul-sub Inv-loop μ-loop
-mul-sub c = search needs
-
-slice-read-sub : tie.Need-slice-read-sub Inv-loop μ-loop
-slice-read-sub c = search needs
-
-sub-requires : tie.Need-sub-requires Inv-loop μ-loop
-sub-requires c κs = search needs
-
-times-requires : tie.Need-times-requires Inv-loop μ-loop
-times-requires c κs = search needs
-
-add-requires : tie.Need-add-requires Inv-loop μ-loop
-add-requires c κs = search needs
-
-mul-table : tie.Need-mul-table Inv-loop μ-loop
-mul-table c = search needs
-
-slice-write-table : tie.Need-slice-write-table Inv-loop μ-loop
-slice-write-table c = search needs
-
-add-b : tie.Need-add-b Inv-loop μ-loop
-add-b c = search needs
-
-loop-less : tie.Need-loop-less Inv-loop μ-loop
-loop-less c = search needs
 
 loop-again : tie.Need-loop-again Inv-loop μ-loop
 loop-again c =
@@ -69,9 +30,6 @@ loop-again c =
     let product = c .before .times .ensures ∙ by-residue p (args .r) _ _ (made .multiplier .ensures) ∙ ap (N .mul (args .r)) (c .before .before .sub .ensures) in
     step _ _ _ _ (at .loop .b) 0 _ (at .loop .inv) (search needs) (c .add .ensures ∙ ap (N .add _) product ∙ by-slope p (omega arith) (args .r) _ _)
 
-same-length : tie.Need-same-length Inv-loop μ-loop
-same-length c = search needs
-
 returns : tie.Need-returns Inv-loop μ-loop
 returns c = end _ _ _ _ (c .before .loop .b) (c .before .loop .inv) (search needs)
 
@@ -79,22 +37,6 @@ pub fold-spec : {M : Type 1} → statement M
 fold-spec =
     tie.close
     (tie.spec
-    Inv-loop
-    μ-loop
-    multiplier-requires
-    loop-holds
-    mul-low
-    slice-read-low
-    add-sub
-    mul-sub
-    slice-read-sub
-    sub-requires
-    times-requires
-    add-requires
-    mul-table
-    slice-write-table
-    add-b
-    loop-less
-    loop-again
-    same-length
-    returns)
+    Inv-loop μ-loop (λ c κs. search needs) loop-holds (λ c. search needs) (λ c. search needs) (λ c. search needs) (λ c. search needs)
+    (λ c. search needs) (λ c κs. search needs) (λ c κs. search needs) (λ c κs. search needs) (λ c. search needs) (λ c. search needs)
+    (λ c. search needs) (λ c. search needs) loop-again (λ c. search needs) returns)

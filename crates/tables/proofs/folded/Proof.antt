@@ -24,15 +24,6 @@ abbrev μ-loop : tie.MeasureT-loop
 returns : tie.Need-returns Inv-loop μ-loop
 returns c = record { whole = λ e. absurd (c .if1 .taken e); other = λ _. refl }
 
-put-requires : tie.Need-put-requires Inv-loop μ-loop
-put-requires c κs = search needs
-
-least-requires : tie.Need-least-requires Inv-loop μ-loop
-least-requires c κs = search needs
-
-least-requires-2 : tie.Need-least-requires-2 Inv-loop μ-loop
-least-requires-2 c κs = search needs
-
 loop-holds : tie.Need-loop-holds Inv-loop μ-loop
 loop-holds c =
     let written = c .before .before .before .before in
@@ -44,28 +35,10 @@ loop-holds c =
     let front = front-put tableWidth values table _ size (written .put .ensures) in
     none-fixed _ _ _ _ (c .before .least .result) (omega (arith, c .before .least .ensures)) (front .size) (front-take front _ count)
 
-slice-relend-prefix-fold : tie.Need-slice-relend-prefix-fold Inv-loop μ-loop
-slice-relend-prefix-fold c = search needs
-
 slice-aggregate-fold : tie.Need-slice-aggregate-fold Inv-loop μ-loop
 slice-aggregate-fold c =
     let at = c .before .before in
     sym (length-take-le (at .loop .n) (at .loop .table) (omega (arith, at .loop .inv .within, at .loop .inv .size)))
-
-mul-fold : tie.Need-mul-fold Inv-loop μ-loop
-mul-fold c = search needs
-
-array-read-fold : tie.Need-array-read-fold Inv-loop μ-loop
-array-read-fold c = search needs
-
-fold-requires : tie.Need-fold-requires Inv-loop μ-loop
-fold-requires c κs = search needs
-
-add-i : tie.Need-add-i Inv-loop μ-loop
-add-i c = search needs
-
-loop-less : tie.Need-loop-less Inv-loop μ-loop
-loop-less c = search needs
 
 loop-again : tie.Need-loop-again Inv-loop μ-loop
 loop-again c =
@@ -95,20 +68,5 @@ pub folded-spec : {M : Type 1} → statement M
 folded-spec =
     tie.close
     (tie.spec
-    Inv-loop
-    μ-loop
-    returns
-    put-requires
-    least-requires
-    least-requires-2
-    loop-holds
-    slice-relend-prefix-fold
-    slice-aggregate-fold
-    mul-fold
-    array-read-fold
-    fold-requires
-    add-i
-    loop-less
-    loop-again
-    same-length
-    returns-2)
+    Inv-loop μ-loop returns (λ c κs. search needs) (λ c κs. search needs) (λ c κs. search needs) loop-holds (λ c. search needs) slice-aggregate-fold
+    (λ c. search needs) (λ c. search needs) (λ c κs. search needs) (λ c. search needs) (λ c. search needs) loop-again same-length returns-2)

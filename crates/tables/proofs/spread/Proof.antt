@@ -19,46 +19,13 @@ Inv-loop f table₀ z half by b₀ table b = (Spread (numbers f) z table₀ tabl
 abbrev μ-loop : tie.MeasureT-loop
 μ-loop f table₀ z half by b₀ table b = half - b
 
-multiplier-requires : tie.Need-multiplier-requires Inv-loop μ-loop
-multiplier-requires c κs = search needs
-
 loop-holds : tie.Need-loop-holds Inv-loop μ-loop
 loop-holds c = (start _ _ _, refl)
-
-mul-weight : tie.Need-mul-weight Inv-loop μ-loop
-mul-weight c = search needs
-
-slice-read-weight : tie.Need-slice-read-weight Inv-loop μ-loop
-slice-read-weight c = search needs
-
-times-requires : tie.Need-times-requires Inv-loop μ-loop
-times-requires c κs = search needs
-
-add-table : tie.Need-add-table Inv-loop μ-loop
-add-table c = search needs
-
-mul-table : tie.Need-mul-table Inv-loop μ-loop
-mul-table c = search needs
-
-slice-write-table : tie.Need-slice-write-table Inv-loop μ-loop
-slice-write-table c = search needs
-
-sub-requires : tie.Need-sub-requires Inv-loop μ-loop
-sub-requires c κs = search needs
-
-mul-table-2 : tie.Need-mul-table-2 Inv-loop μ-loop
-mul-table-2 c = search needs
 
 slice-write-table-2 : tie.Need-slice-write-table-2 Inv-loop μ-loop
 slice-write-table-2 c =
     let at = c .before .before .before .before in
     lt-length-set (at .loop .table) _ (c .before .times .result) (search needs)
-
-add-b : tie.Need-add-b Inv-loop μ-loop
-add-b c = search needs
-
-loop-less : tie.Need-loop-less Inv-loop μ-loop
-loop-less c = search needs
 
 loop-again : tie.Need-loop-again Inv-loop μ-loop
 loop-again c =
@@ -72,9 +39,6 @@ loop-again c =
       simp length-set (at .loop .inv .1),
     )
 
-same-length : tie.Need-same-length Inv-loop μ-loop
-same-length c = search needs
-
 returns : tie.Need-returns Inv-loop μ-loop
 returns c = end _ _ _ _ (c .before .loop .b) (c .before .loop .inv .0) (search needs)
 
@@ -82,21 +46,6 @@ pub spread-spec : {M : Type 1} → statement M
 spread-spec =
     tie.close
     (tie.spec
-    Inv-loop
-    μ-loop
-    multiplier-requires
-    loop-holds
-    mul-weight
-    slice-read-weight
-    times-requires
-    add-table
-    mul-table
-    slice-write-table
-    sub-requires
-    mul-table-2
-    slice-write-table-2
-    add-b
-    loop-less
-    loop-again
-    same-length
-    returns)
+    Inv-loop μ-loop (λ c κs. search needs) loop-holds (λ c. search needs) (λ c. search needs) (λ c κs. search needs) (λ c. search needs)
+    (λ c. search needs) (λ c. search needs) (λ c κs. search needs) (λ c. search needs) slice-write-table-2 (λ c. search needs) (λ c. search needs)
+    loop-again (λ c. search needs) returns)

@@ -23,12 +23,6 @@ abbrev μ-loop : tie.MeasureT-loop
 returns : tie.Need-returns Inv-loop μ-loop
 returns c = record { whole = λ e. absurd (c .if1 .taken e); other = λ _. refl }
 
-slice-write-table : tie.Need-slice-write-table Inv-loop μ-loop
-slice-write-table c = search needs
-
-least-requires : tie.Need-least-requires Inv-loop μ-loop
-least-requires c κs = search needs
-
 loop-holds : tie.Need-loop-holds Inv-loop μ-loop
 loop-holds c =
     let start = c .before .before .before in
@@ -39,9 +33,6 @@ loop-holds c =
     let table = start .args .table .now in
     let size = c .before .if1 .left in
     none-weighed _ _ _ (c .least .result) (omega arith) count (length-set table 0 _ ∙ size) (take-suc-set table 0 _ (omega arith))
-
-sub-left : tie.Need-sub-left Inv-loop μ-loop
-sub-left c = search needs
 
 mul-n : tie.Need-mul-n Inv-loop μ-loop
 mul-n c =
@@ -60,18 +51,6 @@ slice-aggregate-spread c =
     let at = c .before .before in
     let fits = room _ _ _ (at .loop .n) (at .loop .left) (at .loop .inv) (search needs) in
     sym (length-take-le (2 * at .loop .n) (at .loop .table) (omega (arith, at .loop .inv .size)))
-
-mul-spread : tie.Need-mul-spread Inv-loop μ-loop
-mul-spread c = search needs
-
-array-read-spread : tie.Need-array-read-spread Inv-loop μ-loop
-array-read-spread c = search needs
-
-spread-requires : tie.Need-spread-requires Inv-loop μ-loop
-spread-requires c κs = search needs
-
-loop-less : tie.Need-loop-less Inv-loop μ-loop
-loop-less c = search needs
 
 loop-again : tie.Need-loop-again Inv-loop μ-loop
 loop-again c =
@@ -97,20 +76,5 @@ pub weights-spec : {M : Type 1} → statement M
 weights-spec =
     tie.close
     (tie.spec
-    Inv-loop
-    μ-loop
-    returns
-    slice-write-table
-    least-requires
-    loop-holds
-    sub-left
-    mul-n
-    slice-relend-prefix-spread
-    slice-aggregate-spread
-    mul-spread
-    array-read-spread
-    spread-requires
-    loop-less
-    loop-again
-    same-length
-    returns-2)
+    Inv-loop μ-loop returns (λ c. search needs) (λ c κs. search needs) loop-holds (λ c. search needs) mul-n slice-relend-prefix-spread
+    slice-aggregate-spread (λ c. search needs) (λ c. search needs) (λ c κs. search needs) (λ c. search needs) loop-again same-length returns-2)

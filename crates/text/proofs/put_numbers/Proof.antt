@@ -37,26 +37,11 @@ part-put-number-end c =
     let within = wrote-within _ _ _ _ (c .before .loop .inv .2) in
     search needs
 
-mul-put-number : tie.Need-mul-put-number Inv-loop μ-loop
-mul-put-number c = search needs
-
-shared-slice-read-put-number : tie.Need-shared-slice-read-put-number Inv-loop μ-loop
-shared-slice-read-put-number c = search needs
-
-put-number-requires : tie.Need-put-number-requires Inv-loop μ-loop
-put-number-requires c κs = search needs
-
 add-at : tie.Need-add-at Inv-loop μ-loop
 add-at c =
     let at = c .before .before .before .before .before .before .loop in
     let room = wrote-room _ _ _ _ (wrote-more _ _ _ _ (at .inv .2) _ _ _ (c .before .before .put-number .ensures)) in
     search needs
-
-add-i : tie.Need-add-i Inv-loop μ-loop
-add-i c = search needs
-
-loop-less : tie.Need-loop-less Inv-loop μ-loop
-loop-less c = search needs
 
 loop-again : tie.Need-loop-again Inv-loop μ-loop
 loop-again c =
@@ -80,18 +65,5 @@ pub put-numbers-spec : {M : Type 1} → statement M
 put-numbers-spec =
     tie.close
     (tie.spec
-    Inv-loop
-    μ-loop
-    loop-holds
-    sub-put-number
-    part-put-number-start
-    part-put-number-end
-    mul-put-number
-    shared-slice-read-put-number
-    put-number-requires
-    add-at
-    add-i
-    loop-less
-    loop-again
-    same-length
-    returns)
+    Inv-loop μ-loop loop-holds sub-put-number part-put-number-start part-put-number-end (λ c. search needs) (λ c. search needs) (λ c κs. search needs)
+    add-at (λ c. search needs) (λ c. search needs) loop-again same-length returns)

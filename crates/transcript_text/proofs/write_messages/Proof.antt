@@ -64,28 +64,10 @@ fits m =
     let r = m .before .before in
     omega (arith, words-there _ _ _ (start (layer r) .pre .0) _ _ _ _ _ (here r) (more (m .before)), m .message-length .ensures)
 
-depth-requires : tie.Need-depth-requires Inv-loop2 μ-loop2 Inv-loop μ-loop
-depth-requires c κs = search needs
-
-add-layer-end : tie.Need-add-layer-end Inv-loop2 μ-loop2 Inv-loop μ-loop
-add-layer-end c = search needs
-
 loop-holds : tie.Need-loop-holds Inv-loop2 μ-loop2 Inv-loop μ-loop
 loop-holds c =
     let begin = c .before .before .before .before in
     (ap (λ (n : ℕ). n + 1) (c .depth .ensures .0), lines-start _ _ _ (begin .pre .0) (begin .pre .1))
-
-exponent-requires : tie.Need-exponent-requires Inv-loop2 μ-loop2 Inv-loop μ-loop
-exponent-requires c κs = search needs
-
-cast-round-end : tie.Need-cast-round-end Inv-loop2 μ-loop2 Inv-loop μ-loop
-cast-round-end c = search needs
-
-mul-round-end : tie.Need-mul-round-end Inv-loop2 μ-loop2 Inv-loop μ-loop
-mul-round-end c = search needs
-
-add-round-end : tie.Need-add-round-end Inv-loop2 μ-loop2 Inv-loop μ-loop
-add-round-end c = search needs
 
 loop2-holds : tie.Need-loop2-holds Inv-loop2 μ-loop2 Inv-loop μ-loop
 loop2-holds c =
@@ -94,20 +76,11 @@ loop2-holds c =
       λ before b. layer-starts _ _ before (start o .pre .0) _ _ _ _ b (omega (arith, o .loop .inv .0, c .before .loop-test .taken)),
     )
 
-message-length-requires : tie.Need-message-length-requires Inv-loop2 μ-loop2 Inv-loop μ-loop
-message-length-requires c κs = search needs
-
 add-end : tie.Need-add-end Inv-loop2 μ-loop2 Inv-loop μ-loop
 add-end c = let room = fits c in search needs
 
 mul-write-message : tie.Need-mul-write-message Inv-loop2 μ-loop2 Inv-loop μ-loop
 mul-write-message c = let room = fits c in search needs
-
-sub-write-message : tie.Need-sub-write-message Inv-loop2 μ-loop2 Inv-loop μ-loop
-sub-write-message c = search needs
-
-part-write-message-start : tie.Need-part-write-message-start Inv-loop2 μ-loop2 Inv-loop μ-loop
-part-write-message-start c = search needs
 
 part-write-message-end : tie.Need-part-write-message-end Inv-loop2 μ-loop2 Inv-loop μ-loop
 part-write-message-end c = let room = fits c in search needs
@@ -121,20 +94,11 @@ part-write-message-start-2 c = let room = within (c .before .before .before) in 
 part-write-message-end-2 : tie.Need-part-write-message-end-2 Inv-loop2 μ-loop2 Inv-loop μ-loop
 part-write-message-end-2 c = let room = within (c .before .before .before) in search needs
 
-write-message-requires : tie.Need-write-message-requires Inv-loop2 μ-loop2 Inv-loop μ-loop
-write-message-requires c κs = search needs
-
 add-to : tie.Need-add-to Inv-loop2 μ-loop2 Inv-loop μ-loop
 add-to c =
     let r = c .before .before .before .before .before .before .before in
     let room = wrote-room _ _ _ _ (wrote-more _ _ _ _ (here r .stands .left .wrote) _ _ _ (c .before .before .write-message .ensures)) in
     search needs
-
-add-round : tie.Need-add-round Inv-loop2 μ-loop2 Inv-loop μ-loop
-add-round c = search needs
-
-loop2-less : tie.Need-loop2-less Inv-loop2 μ-loop2 Inv-loop μ-loop
-loop2-less c = search needs
 
 loop2-again : tie.Need-loop2-again Inv-loop2 μ-loop2 Inv-loop μ-loop
 loop2-again c =
@@ -145,12 +109,6 @@ loop2-again c =
       λ before b. round-done _ _ before (start (layer r) .pre .0) _ _ _ _ _ (r .loop2 .inv .1 before b) (more t)
           (wide .result) (wide .ensures) _ _ (c .before .before .write-message .ensures),
     )
-
-add-layer : tie.Need-add-layer Inv-loop2 μ-loop2 Inv-loop μ-loop
-add-layer c = search needs
-
-loop-less : tie.Need-loop-less Inv-loop2 μ-loop2 Inv-loop μ-loop
-loop-less c = search needs
 
 loop-again : tie.Need-loop-again Inv-loop2 μ-loop2 Inv-loop μ-loop
 loop-again c =
@@ -172,34 +130,7 @@ pub write-messages-spec : {M : Type 1} → statement M
 write-messages-spec =
     tie.close
     (tie.spec
-    Inv-loop2
-    μ-loop2
-    Inv-loop
-    μ-loop
-    depth-requires
-    add-layer-end
-    loop-holds
-    exponent-requires
-    cast-round-end
-    mul-round-end
-    add-round-end
-    loop2-holds
-    message-length-requires
-    add-end
-    mul-write-message
-    sub-write-message
-    part-write-message-start
-    part-write-message-end
-    sub-write-message-2
-    part-write-message-start-2
-    part-write-message-end-2
-    write-message-requires
-    add-to
-    add-round
-    loop2-less
-    loop2-again
-    add-layer
-    loop-less
-    loop-again
-    same-length
-    returns)
+    Inv-loop2 μ-loop2 Inv-loop μ-loop (λ c κs. search needs) (λ c. search needs) loop-holds (λ c κs. search needs) (λ c. search needs)
+    (λ c. search needs) (λ c. search needs) loop2-holds (λ c κs. search needs) add-end mul-write-message (λ c. search needs) (λ c. search needs)
+    part-write-message-end sub-write-message-2 part-write-message-start-2 part-write-message-end-2 (λ c κs. search needs) add-to (λ c. search needs)
+    (λ c. search needs) loop2-again (λ c. search needs) (λ c. search needs) loop-again same-length returns)

@@ -90,18 +90,6 @@ module _ (t : Turn) where
 room : (w : Measured) → w .before .before .loop .at + w .message-length .result ≤ length (start (layer (w .before)) .args .messages .now)
 room w = let all = words (w .before) in omega (arith, w .message-length .ensures)
 
-prime-requires : tie.Need-prime-requires Inv-loop μ-loop Inv-walk μ-walk
-prime-requires c κs = search needs
-
-of-requires : tie.Need-of-requires Inv-loop μ-loop Inv-walk μ-walk
-of-requires c κs = search needs
-
-depth-requires : tie.Need-depth-requires Inv-loop μ-loop Inv-walk μ-walk
-depth-requires c κs = search needs
-
-coins-before-requires : tie.Need-coins-before-requires Inv-loop μ-loop Inv-walk μ-walk
-coins-before-requires c κs = search needs
-
 walk-holds : tie.Need-walk-holds Inv-loop μ-loop Inv-walk μ-walk
 walk-holds c =
     let s = c .before .before .before .before .before .before .before .before in
@@ -110,26 +98,11 @@ walk-holds c =
 finish-requires : tie.Need-finish-requires Inv-loop μ-loop Inv-walk μ-walk
 finish-requires c κs = start (c .before) .pre .given
 
-exponent-requires : tie.Need-exponent-requires Inv-loop μ-loop Inv-walk μ-walk
-exponent-requires c κs = search needs
-
-cast-round-end : tie.Need-cast-round-end Inv-loop μ-loop Inv-walk μ-walk
-cast-round-end c = search needs
-
-mul-round-end : tie.Need-mul-round-end Inv-loop μ-loop Inv-walk μ-walk
-mul-round-end c = search needs
-
-add-round-end : tie.Need-add-round-end Inv-loop μ-loop Inv-walk μ-walk
-add-round-end c = search needs
-
 loop-holds : tie.Need-loop-holds Inv-loop μ-loop Inv-walk μ-walk
 loop-holds c =
     let o = c .before .before in
     let low : o .walk .layer ≤ depthOf (start o .args .circuit .now) = omega (arith, c .before .if1 .left, o .before .before .depth .ensures .0) in
     (ap (λ (k : ℕ). 2 * k + 1) (c .exponent .ensures), layer-starts _ _ _ _ _ (start o .pre) _ _ _ _ (o .walk .inv) low)
-
-message-length-requires : tie.Need-message-length-requires Inv-loop μ-loop Inv-walk μ-walk
-message-length-requires c κs = search needs
 
 add-end : tie.Need-add-end Inv-loop μ-loop Inv-walk μ-walk
 add-end c =
@@ -164,35 +137,14 @@ part-message-end c =
 slice-aggregate-judge : tie.Need-slice-aggregate-judge Inv-loop μ-loop Inv-walk μ-walk
 slice-aggregate-judge c = let there = coin (c .before .before .before) in sym (length-take-le _ _ (omega arith))
 
-judge-requires : tie.Need-judge-requires Inv-loop μ-loop Inv-walk μ-walk
-judge-requires c κs = search needs
-
-enum-known-judged : tie.Need-enum-known-judged Inv-loop μ-loop Inv-walk μ-walk
-enum-known-judged c = search needs
-
-enum-told : tie.Need-enum-told Inv-loop μ-loop Inv-walk μ-walk
-enum-told c = search needs
-
-mul-value-at : tie.Need-mul-value-at Inv-loop μ-loop Inv-walk μ-walk
-mul-value-at c = search needs
-
 shared-slice-read-value-at : tie.Need-shared-slice-read-value-at Inv-loop μ-loop Inv-walk μ-walk
 shared-slice-read-value-at c = let there = coin (c .before .before .before .before .before .before .before) in search needs
-
-value-at-requires : tie.Need-value-at-requires Inv-loop μ-loop Inv-walk μ-walk
-value-at-requires c κs = search needs
 
 add-n : tie.Need-add-n Inv-loop μ-loop Inv-walk μ-walk
 add-n c =
     let there = coin (c .before .before .before .before .before .before .before .before) in
     let known = layer (c .before .before .before .before .before .before .before .before) .before in
     search needs
-
-add-round : tie.Need-add-round Inv-loop μ-loop Inv-walk μ-walk
-add-round c = search needs
-
-loop-less : tie.Need-loop-less Inv-loop μ-loop Inv-walk μ-walk
-loop-less c = search needs
 
 loop-again : tie.Need-loop-again Inv-loop μ-loop Inv-walk μ-walk
 loop-again c =
@@ -240,40 +192,8 @@ pub walk-spec : {M : Type 1} → statement M
 walk-spec =
     tie.close
     (tie.spec
-    Inv-loop
-    μ-loop
-    Inv-walk
-    μ-walk
-    prime-requires
-    of-requires
-    depth-requires
-    coins-before-requires
-    walk-holds
-    finish-requires
-    exponent-requires
-    cast-round-end
-    mul-round-end
-    add-round-end
-    loop-holds
-    message-length-requires
-    add-end
-    mul-message
-    sub-message
-    part-message-start
-    part-message-end
-    slice-aggregate-judge
-    judge-requires
-    enum-known-judged
-    enum-told
-    mul-value-at
-    shared-slice-read-value-at
-    value-at-requires
-    add-n
-    add-round
-    loop-less
-    loop-again
-    add-layer
-    walk-less
-    walk-again
-    returns
-    returns-2)
+    Inv-loop μ-loop Inv-walk μ-walk (λ c κs. search needs) (λ c κs. search needs) (λ c κs. search needs) (λ c κs. search needs) walk-holds
+    finish-requires (λ c κs. search needs) (λ c. search needs) (λ c. search needs) (λ c. search needs) loop-holds (λ c κs. search needs) add-end
+    mul-message sub-message part-message-start part-message-end slice-aggregate-judge (λ c κs. search needs) (λ c. search needs) (λ c. search needs)
+    (λ c. search needs) shared-slice-read-value-at (λ c κs. search needs) add-n (λ c. search needs) (λ c. search needs) loop-again add-layer walk-less
+    walk-again returns returns-2)

@@ -17,29 +17,8 @@ Inv-loop bytes buffer₀ count i₀ buffer i = Stored (take (length buffer₀) (
 abbrev μ-loop : tie.MeasureT-loop
 μ-loop bytes buffer₀ count i₀ buffer i = count - i
 
-least-requires : tie.Need-least-requires Inv-loop μ-loop
-least-requires c κs = search needs
-
 loop-holds : tie.Need-loop-holds Inv-loop μ-loop
 loop-holds c = start-held _ _
-
-mul-word-within : tie.Need-mul-word-within Inv-loop μ-loop
-mul-word-within c = search needs
-
-word-within-requires : tie.Need-word-within-requires Inv-loop μ-loop
-word-within-requires c κs = search needs
-
-mul-buffer : tie.Need-mul-buffer Inv-loop μ-loop
-mul-buffer c = search needs
-
-slice-write-buffer : tie.Need-slice-write-buffer Inv-loop μ-loop
-slice-write-buffer c = search needs
-
-add-i : tie.Need-add-i Inv-loop μ-loop
-add-i c = search needs
-
-loop-less : tie.Need-loop-less Inv-loop μ-loop
-loop-less c = search needs
 
 loop-again : tie.Need-loop-again Inv-loop μ-loop
 loop-again c =
@@ -47,9 +26,6 @@ loop-again c =
     let bytes = here .before .before .before .before .args .bytes .now in
     let size = length-words bytes in
     next-held (words bytes) _ (here .loop .inv) 0 _ (omega arith) (c .word-within .ensures ∙ sym (word-of bytes (here .loop .i) (omega arith)))
-
-same-length : tie.Need-same-length Inv-loop μ-loop
-same-length c = search needs
 
 returns : tie.Need-returns Inv-loop μ-loop
 returns c =
@@ -61,16 +37,5 @@ pub put-words-spec : {M : Type 1} → statement M
 put-words-spec =
     tie.close
     (tie.spec
-    Inv-loop
-    μ-loop
-    least-requires
-    loop-holds
-    mul-word-within
-    word-within-requires
-    mul-buffer
-    slice-write-buffer
-    add-i
-    loop-less
-    loop-again
-    same-length
-    returns)
+    Inv-loop μ-loop (λ c κs. search needs) loop-holds (λ c. search needs) (λ c κs. search needs) (λ c. search needs) (λ c. search needs)
+    (λ c. search needs) (λ c. search needs) loop-again (λ c. search needs) returns)

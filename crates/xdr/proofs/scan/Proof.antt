@@ -52,15 +52,6 @@ loop-holds : tie.Need-loop-holds Inv-loop μ-loop
 loop-holds c =
     ([], refl, search needs, refl, search needs, omega (arith, ltb-false), search needs, refl, rw sub-zero (sym (after-nil _)))
 
-front-at-requires : tie.Need-front-at-requires Inv-loop μ-loop
-front-at-requires c κs = search needs
-
-enum-known-front : tie.Need-enum-known-front Inv-loop μ-loop
-enum-known-front c = search needs
-
-enum-told : tie.Need-enum-told Inv-loop μ-loop
-enum-told c = search needs
-
 returns-2 : tie.Need-returns-2 Inv-loop μ-loop
 returns-2 c =
     let here = c .before .before .before .before in
@@ -68,29 +59,8 @@ returns-2 c =
     let unfit = front-none (whole l) (firstWord l) (sym (c .enum-told .given .1) ∙ c .before .before .front-at .ensures) in
     sym (refused-found (all-called here (arrays-none _ l (omega arith) unfit)))
 
-mul-counts : tie.Need-mul-counts Inv-loop μ-loop
-mul-counts c = search needs
-
 array-write-counts : tie.Need-array-write-counts Inv-loop μ-loop
 array-write-counts c = omega arith
-
-cast-at : tie.Need-cast-at Inv-loop μ-loop
-cast-at c = search needs
-
-mul-at : tie.Need-mul-at Inv-loop μ-loop
-mul-at c = search needs
-
-add-at : tie.Need-add-at Inv-loop μ-loop
-add-at c = search needs
-
-add-at-2 : tie.Need-add-at-2 Inv-loop μ-loop
-add-at-2 c = search needs
-
-add-i : tie.Need-add-i Inv-loop μ-loop
-add-i c = search needs
-
-loop-less : tie.Need-loop-less Inv-loop μ-loop
-loop-less c = search needs
 
 loop-again : tie.Need-loop-again Inv-loop μ-loop
 loop-again c =
@@ -119,18 +89,6 @@ returns-3 c =
     let here = c .before .before in
     sym (refused-found (all-called here (arrays-left-over _ (ahead here) (omega arith) (simp length-drop (omega arith)))))
 
-array-read-t24 : tie.Need-array-read-t24 Inv-loop μ-loop
-array-read-t24 c = search needs
-
-array-read-t27 : tie.Need-array-read-t27 Inv-loop μ-loop
-array-read-t27 c = search needs
-
-array-read-t30 : tie.Need-array-read-t30 Inv-loop μ-loop
-array-read-t30 c = search needs
-
-array-read-t33 : tie.Need-array-read-t33 Inv-loop μ-loop
-array-read-t33 c = search needs
-
 returns-4 : tie.Need-returns-4 Inv-loop μ-loop
 returns-4 c =
     let here = c .before .before in
@@ -142,26 +100,6 @@ pub scan-spec : {M : Type 1} → statement M
 scan-spec =
     tie.close
     (tie.spec
-    Inv-loop
-    μ-loop
-    returns
-    loop-holds
-    front-at-requires
-    enum-known-front
-    enum-told
-    returns-2
-    mul-counts
-    array-write-counts
-    cast-at
-    mul-at
-    add-at
-    add-at-2
-    add-i
-    loop-less
-    loop-again
-    returns-3
-    array-read-t24
-    array-read-t27
-    array-read-t30
-    array-read-t33
-    returns-4)
+    Inv-loop μ-loop returns loop-holds (λ c κs. search needs) (λ c. search needs) (λ c. search needs) returns-2 (λ c. search needs) array-write-counts
+    (λ c. search needs) (λ c. search needs) (λ c. search needs) (λ c. search needs) (λ c. search needs) (λ c. search needs) loop-again returns-3
+    (λ c. search needs) (λ c. search needs) (λ c. search needs) (λ c. search needs) returns-4)

@@ -43,53 +43,11 @@ step-at read =
 loop-holds : tie.Need-loop-holds Inv-loop μ-loop
 loop-holds c = ([], refl, search needs, refl, refl, search needs, c .before .before .pre .0, refl)
 
-word-at-requires : tie.Need-word-at-requires Inv-loop μ-loop
-word-at-requires c κs = search needs
-
-cast-count : tie.Need-cast-count Inv-loop μ-loop
-cast-count c = search needs
-
-add-start : tie.Need-add-start Inv-loop μ-loop
-add-start c = search needs
-
-mul-at : tie.Need-mul-at Inv-loop μ-loop
-mul-at c = search needs
-
-add-at : tie.Need-add-at Inv-loop μ-loop
-add-at c = search needs
-
-sub-put-words : tie.Need-sub-put-words Inv-loop μ-loop
-sub-put-words c = search needs
-
-part-put-words-start : tie.Need-part-put-words-start Inv-loop μ-loop
-part-put-words-start c = search needs
-
 part-put-words-end : tie.Need-part-put-words-end Inv-loop μ-loop
 part-put-words-end c = let s = step-at c in omega arith
 
-mul-put-words : tie.Need-mul-put-words Inv-loop μ-loop
-mul-put-words c = search needs
-
-sub-put-words-2 : tie.Need-sub-put-words-2 Inv-loop μ-loop
-sub-put-words-2 c = search needs
-
-part-put-words-start-2 : tie.Need-part-put-words-start-2 Inv-loop μ-loop
-part-put-words-start-2 c = search needs
-
-part-put-words-end-2 : tie.Need-part-put-words-end-2 Inv-loop μ-loop
-part-put-words-end-2 c = search needs
-
-put-words-requires : tie.Need-put-words-requires Inv-loop μ-loop
-put-words-requires c κs = search needs
-
 add-to : tie.Need-add-to Inv-loop μ-loop
 add-to c = let s = step-at (c .before .before .before .before .before) in search needs
-
-sub-left : tie.Need-sub-left Inv-loop μ-loop
-sub-left c = search needs
-
-loop-less : tie.Need-loop-less Inv-loop μ-loop
-loop-less c = search needs
 
 loop-again : tie.Need-loop-again Inv-loop μ-loop
 loop-again c =
@@ -114,9 +72,6 @@ loop-again c =
       inv .7 ∙ ap (λ (t : List ℕ). inv .0 ++ t) (s .all) ∙ sym (append-assoc (inv .0) ws _),
     )
 
-same-length : tie.Need-same-length Inv-loop μ-loop
-same-length c = search needs
-
 returns : tie.Need-returns Inv-loop μ-loop
 returns c =
     let here = c .before in
@@ -129,25 +84,6 @@ pub write-spec : {M : Type 1} → statement M
 write-spec =
     tie.close
     (tie.spec
-    Inv-loop
-    μ-loop
-    loop-holds
-    word-at-requires
-    cast-count
-    add-start
-    mul-at
-    add-at
-    sub-put-words
-    part-put-words-start
-    part-put-words-end
-    mul-put-words
-    sub-put-words-2
-    part-put-words-start-2
-    part-put-words-end-2
-    put-words-requires
-    add-to
-    sub-left
-    loop-less
-    loop-again
-    same-length
-    returns)
+    Inv-loop μ-loop loop-holds (λ c κs. search needs) (λ c. search needs) (λ c. search needs) (λ c. search needs) (λ c. search needs)
+    (λ c. search needs) (λ c. search needs) part-put-words-end (λ c. search needs) (λ c. search needs) (λ c. search needs) (λ c. search needs)
+    (λ c κs. search needs) add-to (λ c. search needs) (λ c. search needs) loop-again (λ c. search needs) returns)
