@@ -128,7 +128,7 @@ pub record Wires (next : ℕ) (g : Gate) : Type 0 where
 pub gate-wires : (next : ℕ) (g : Gate) → gateCause next g ≡ 0 → Wires next g
 unfolding gateCause wiresGood
 gate-wires next g e =
-    let kinds = need-none (leb (g .kind) 2) 5 _ e in
+    let kinds = need-none (leb (g .kind) maxKind) 5 _ e in
     let good = need-none (wiresGood next g) 6 _ (kinds .1) .0 in
     record {
       left = ltb-true (g .left) next (and-left (ltb (g .left) next) _ good);
