@@ -75,20 +75,18 @@ module _ (c ms before : List ℕ) where
     abbrev len : ℕ
     len = messageLength c (place layer round)
 
-    abbrev rest : List Place
-    rest = before-round c layer (round + 1)
-
-    left : Left text at to (place layer round ∷ rest) (due .here .coins)
+    left : Left text at to (place layer round ∷ before-round c layer (round + 1)) (due .here .coins)
     left = loops.round-opened c (due .legal) (due .here .stands) (due .more)
 
-    pub words-there : at + messageLength c (place layer round) ≤ length ms
-    words-there = sum-there (messageLength c) (place layer round) rest at (length ms) (left .counted)
+    pub words-there : at + len ≤ length ms
+    words-there = sum-there (messageLength c) (place layer round) (before-round c layer (round + 1)) at (length ms) (left .counted)
 
     pub round-done : {part : List ℕ} {n : ℕ}
         → Wrote (lineText (wordOf c (place layer round)) (take (at + len - at) (drop at ms))) (take (length text - to) (drop to text)) part n
         → BeforeRound (take to text ++ (part ++ drop (length text - to) (drop to text))) (at + len) (to + n) layer (round + 1)
     unfolding messagesText
     round-done {part} {n} v =
+        let rest : List Place = before-round c layer (round + 1) in
         let cut : at + len - at ≡ len = omega arith in
         let line : List ℕ = lineText (wordOf c (place layer round)) (take (at + len - at) (drop at ms)) in
         let same : line ≡ lineText (wordOf c (place layer round)) (take len (drop at ms)) =

@@ -21,16 +21,16 @@ use Rattle.protocol.proofs.Places.{before-round}
 use Rattle.standing.proofs.Loops as loops
 use Rattle.verifier.specs.Answers.{Walkable}
 
--- what is checked: the claim that a circuit has this output on this input, with the messages and coins that are to show it
+-- what is checked: a circuit and its input, the claim that the walk starts from, and the messages and coins that are to show it
 pub record Claimed : Type 0 where
   pub circuit : List ℕ
   pub input : List ℕ
-  pub output : ℕ
+  pub first : ℕ
   pub messages : List ℕ
   pub coins : List ℕ
 
 module _ (k : Claimed) where
-  open Claimed k using (circuit as c, input, output as y, messages as ms, coins as cs)
+  open Claimed k using (circuit as c, input, first as y, messages as ms, coins as cs)
 
   abbrev run : Run Place
   run = record { game = descent c; final = inputAgrees c input; messages = ms; coins = cs; whole = walkFrom c input y cs ms }

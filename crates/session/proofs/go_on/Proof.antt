@@ -56,20 +56,18 @@ returns-3 c =
     let l = c .before .before .before in
     let e = first l in
     let a = start (e .before) .args in
-    let test = c .before .input-agrees in
-    let said : test .result ≡ true = search needs in
+    let said : c .before .input-agrees .result ≡ true = search needs in
     goes-ended _ _ _ _ (start (e .before) .pre) (a .coin) (a .claim) (line e) (last l) _ (c .before .before .ended .ensures)
-    (ap (λ (b : Bool). stepFinal b (recordOf (a .session)) .0) (sym said ∙ test .ensures (start (e .before) .pre .given)))
+    (ap (λ (b : Bool). stepFinal b (recordOf (a .session)) .0) (sym said ∙ c .before .input-agrees .ensures (start (e .before) .pre .given)))
 
 returns-4 : tie.Need-returns-4
 returns-4 c =
     let l = c .before .before .before in
     let e = first l in
     let a = start (e .before) .args in
-    let test = c .before .input-agrees in
-    let said : test .result ≡ false = search needs in
+    let said : c .before .input-agrees .result ≡ false = search needs in
     goes-ended _ _ _ _ (start (e .before) .pre) (a .coin) (a .claim) (line e) (last l) _ (c .before .before .ended .ensures)
-    (ap (λ (b : Bool). stepFinal b (recordOf (a .session)) .0) (sym said ∙ test .ensures (start (e .before) .pre .given)))
+    (ap (λ (b : Bool). stepFinal b (recordOf (a .session)) .0) (sym said ∙ c .before .input-agrees .ensures (start (e .before) .pre .given)))
 
 pub go-on-spec : {M : Type 1} → statement M
 go-on-spec =

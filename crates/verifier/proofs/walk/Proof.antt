@@ -25,7 +25,7 @@ use Rattle.verifier.proofs.walk.Statement.{statement}
 use Rattle.verifier.proofs.walk.Tie as tie
 
 abbrev claimed : List ℕ → List ℕ → ℕ → List ℕ → List ℕ → Claimed
-claimed c input first ms cs = record { circuit = c; input = input; output = first; messages = ms; coins = cs }
+claimed c input first ms cs = record { circuit = c; input = input; first = first; messages = ms; coins = cs }
 
 abbrev Inv-loop : tie.InvT-loop
 Inv-loop circuit input first coins messages f depth claim₀ layer n₀ at₀ round₀ round-end claim n at round =
