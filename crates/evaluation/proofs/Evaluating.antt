@@ -173,16 +173,16 @@ module _ (c input : List ℕ) (e : listsCause c input ≡ 0) where
         ∙ take-append-drop count (drop at all)
 
     -- the array with the layer, as the borrow checker gives it
-    pub turn-filled : (q : ℕ) (rest : List ℕ) → q ≡ primeOf c
-        → rest ≡ over (layerValues (words q) count (gatesFrom c at) (take (maxValues - at) (drop at values))) (take (maxValues - at) (drop at values))
+    pub turn-filled : (rest : List ℕ)
+        → rest ≡ over (layerValues N count (gatesFrom c at) (take (maxValues - at) (drop at values))) (take (maxValues - at) (drop at values))
         → Filled c input (take at values ++ (rest ++ drop (maxValues - at) (drop at values))) j at
-    turn-filled q rest eq er =
+    turn-filled rest er =
         let n : length layer ≡ count = length-layer N count (gatesFrom c at) (drop at values) in
         let starts = next in
         let fits : at + length layer ≤ maxValues = let most = turn-sizes in omega arith in
         let now : rest ≡ over layer (take (maxValues - at) (drop at values)) =
-        er ∙ ap₂ (λ (p : ℕ) (v : List ℕ). over (layerValues (words p) count (gatesFrom c at) v) (take (maxValues - at) (drop at values)))
-        eq (rest-lent values at maxValues (F .size)) in
+        er ∙ ap (λ (v : List ℕ). over (layerValues N count (gatesFrom c at) v) (take (maxValues - at) (drop at values)))
+        (rest-lent values at maxValues (F .size)) in
         let whole = put values rest layer at (F .size) fits now in
         let long : valueCount c - at ≡ length layer + (valueCount c - from) = let ends = room in omega arith in
         let tail : drop (length layer) (drop at values) ≡ drop from values = ap (λ (m : ℕ). drop m (drop at values)) n ∙ behind values in

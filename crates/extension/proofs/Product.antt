@@ -38,19 +38,19 @@ module _ {C : Type 0} (N : Numbers C) where
   pub factor-zero : (n : ℕ) (x z : C) → (n % 2 ≡ 1 → ⊥) → x ≡ N .sub (N .𝟙) z → x ≡ factor N (odd n) z
   factor-zero n x z other e = e ∙ ap (λ (t : Bool). factor N t z) (sym (ne-eqb (n % 2) 1 other))
 
-  pub step : (index : ℕ) (point : List C) (d x product next : C) (rest left : ℕ) → Product index point product rest left → 0 < left
-      → x ≡ factor N (odd rest) (getD point (left - 1) d) → next ≡ N .mul x product
-      → Product index point next (rest / 2) (left - 1)
+  pub step : (index : ℕ) (point : List C) (x product : C) (rest left : ℕ) → Product index point product rest left → 0 < left
+      → x ≡ factor N (odd rest) (getD point (left - 1) (N .𝟘))
+      → Product index point (N .mul x product) (rest / 2) (left - 1)
   unfolding bits weightOfBits
-  step index point d x product next rest left h more f e =
+  step index point x product rest left h more f =
       let k : ℕ = length point - left in
       let within = h .within in
       let longer : length point - (left - 1) ≡ suc k = omega arith in
       record {
         within = omega arith;
         bits-left = rw longer (ap (λ (n : ℕ). n / 2) (h .bits-left) ∙ shr-shr index k 1 ∙ ap (λ (n : ℕ). index / 2 ^ n) (add-one k));
-        passed = rw (longer, drop-down point left d more within) (e
-            ∙ ap₂ (N .mul) (f ∙ ap (λ (r : ℕ). factor N (odd r) (getD point (left - 1) d)) (h .bits-left)) (h .passed));
+        passed = rw (longer, drop-down point left (N .𝟘) more within)
+            (ap₂ (N .mul) (f ∙ ap (λ (r : ℕ). factor N (odd r) (getD point (left - 1) (N .𝟘))) (h .bits-left)) (h .passed));
       }
 
   pub end : (index : ℕ) (point : List C) (product : C) (rest left : ℕ) → Product index point product rest left → left ≡ 0

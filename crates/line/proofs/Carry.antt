@@ -14,7 +14,7 @@ use Rattle.algebra.specs.Numbers.{Numbers}
 use Rattle.sumcheck.specs.Line.{along}
 use Rattle.sumcheck.proofs.Line.{length-along}
 
-module _ {C : Type 0} (N : Numbers C) (z x d : C) (row₀ high : List C) where
+module _ {C : Type 0} (N : Numbers C) (x d : C) (row₀ high : List C) where
   open Numbers N using (𝟘, add as _⊕_, sub as _⊖_, mul as _⊗_)
 
   infixl 60 _⊕_ _⊖_
@@ -44,46 +44,48 @@ module _ {C : Type 0} (N : Numbers C) (z x d : C) (row₀ high : List C) where
   start h = record { within = omega arith; room = h; front = stored-start whole row₀ (omega (arith, long h)); left = refl }
 
   -- an element and the rest after it, from a list's part
-  first-left : (l rest : List C) (i : ℕ) (c : C) → i < length l → drop i l ≡ c ∷ rest → (getD l i z ≡ c) × (drop (suc i) l ≡ rest)
+  first-left : (l rest : List C) (i : ℕ) (c : C) → i < length l → drop i l ≡ c ∷ rest → (getD l i 𝟘 ≡ c) × (drop (suc i) l ≡ rest)
   first-left l rest i c h e =
-      let parts : getD l i z ∷ drop (suc i) l ≡ c ∷ rest = sym (drop-cons l i z h) ∙ e in
-      (ap (λ (t : List C). getD t 0 z) parts, ap (drop 1) parts)
+      let parts : getD l i 𝟘 ∷ drop (suc i) l ≡ c ∷ rest = sym (drop-cons l i 𝟘 h) ∙ e in
+      (ap (λ (t : List C). getD t 0 𝟘) parts, ap (drop 1) parts)
 
   module _ (row : List C) (carry : C) (i : ℕ) (h : Carried row carry i) where
     -- a word that is not yet written
-    word-left : i < m → getD row i z ≡ getD low i z
-    word-left more = kept (h .front) i z (omega arith) ∙ sym (getD-take m row₀ i z more)
+    word-left : i < m → getD row i 𝟘 ≡ getD low i 𝟘
+    word-left more = kept (h .front) i 𝟘 (omega arith) ∙ sym (getD-take m row₀ i 𝟘 more)
 
-    pub step : (e c : C) → i < m → e ≡ getD high i z ⊖ getD row i z → c ≡ getD row i z ⊕ x ⊗ e ⊕ d ⊗ carry
-        → Carried (set row i c) e (i + 1)
+    -- the difference that is carried on
+    abbrev e : C
+    e = getD high i 𝟘 ⊖ getD row i 𝟘
+
+    pub step : i < m → Carried (set row i (getD row i 𝟘 ⊕ x ⊗ e ⊕ d ⊗ carry)) e (i + 1)
     unfolding along
-    step e c more difference coefficient =
+    step more =
         let size = long (h .room) in
         let low-size = low-long (h .room) in
-        let a : C = getD low i z in
-        let b : C = getD high i z in
+        let a : C = getD low i 𝟘 in
+        let b : C = getD high i 𝟘 in
         let rest : List C = along N x d (b ⊖ a) (drop (suc i) low) (drop (suc i) high) in
-        let same : e ≡ b ⊖ a = difference ∙ ap (λ (k : C). b ⊖ k) (word-left more) in
-        let parts : (getD whole i z ≡ a ⊕ x ⊗ (b ⊖ a) ⊕ d ⊗ carry) × (drop (suc i) whole ≡ rest) =
-        first-left whole rest i _ (omega arith) (h .left ∙ ap₂ (along N x d carry) (drop-cons low i z (omega arith)) (drop-cons high i z more)) in
+        let same : e ≡ b ⊖ a = ap (λ (k : C). b ⊖ k) (word-left more) in
+        let parts : (getD whole i 𝟘 ≡ a ⊕ x ⊗ (b ⊖ a) ⊕ d ⊗ carry) × (drop (suc i) whole ≡ rest) =
+        first-left whole rest i _ (omega arith) (h .left ∙ ap₂ (along N x d carry) (drop-cons low i 𝟘 (omega arith)) (drop-cons high i 𝟘 more)) in
         record {
           within = omega arith;
           room = h .room;
-          front = next (h .front) z c (omega arith)
-              (coefficient ∙ ap₂ (λ (k l : C). k ⊕ x ⊗ l ⊕ d ⊗ carry) (word-left more) same ∙ sym (parts .0));
+          front = next (h .front) 𝟘 _ (omega arith) (ap₂ (λ (k l : C). k ⊕ x ⊗ l ⊕ d ⊗ carry) (word-left more) same ∙ sym (parts .0));
           left = ap (λ (n : ℕ). drop n whole) (add-one i) ∙ parts .1
               ∙ ap₂ (λ (k : C) (n : ℕ). along N x d k (drop n low) (drop n high)) (sym same) (sym (add-one i));
         }
 
     -- the last coefficient
-    pub end : (c : C) → m ≤ i → c ≡ d ⊗ carry → set row m c ≡ over whole row₀
+    pub end : m ≤ i → set row m (d ⊗ carry) ≡ over whole row₀
     unfolding along
-    end c all coefficient =
+    end all =
         let within : i ≤ m = h .within in
         let size = long (h .room) in
         let here : i ≡ m = omega arith in
         let none : drop i low ≡ [] = drop-of-length-le low {i = i} (omega (arith, low-long (h .room))) in
-        let parts : (getD whole i z ≡ d ⊗ carry) × (drop (suc i) whole ≡ []) =
+        let parts : (getD whole i 𝟘 ≡ d ⊗ carry) × (drop (suc i) whole ≡ []) =
         first-left whole [] i _ (omega arith) (h .left ∙ ap (λ (l : List C). along N x d carry l (drop i high)) none) in
-        ap (λ (n : ℕ). set row n c) (sym here)
-        ∙ stored-end (next (h .front) z c (omega arith) (coefficient ∙ sym (parts .0))) (omega arith)
+        ap (λ (n : ℕ). set row n (d ⊗ carry)) (sym here)
+        ∙ stored-end (next (h .front) 𝟘 (d ⊗ carry) (omega arith) (sym (parts .0))) (omega arith)

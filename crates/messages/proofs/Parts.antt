@@ -1,7 +1,7 @@
 -- The part of all layers' values that the code takes for a layer: it is there, and holds the layer's values.
 -- Assumes nothing.
 use Prim.Native.Nat.{ℕ, _+_, _-_, _*_, _^_, _≤_, _<_}
-use mathlib.Core.Path.{_≡_, sym, ap, ap₂, _∙_, subst}
+use mathlib.Core.Path.{_≡_, sym, ap₂, _∙_, subst}
 use mathlib.Core.List.{List}
 use native.Mathlib.Omega.{arith}
 use lib.Pow.{pow-pos}
@@ -18,13 +18,13 @@ pub part-small : (c : List ℕ) (layer from k w : ℕ) → GatesBefore c layer f
 part-small c layer from k w before ew = omega (arith, before .few, ew, width-small k)
 
 -- it is the layer's
-module _ (c : List ℕ) (layer round : ℕ) (past values buffer : List ℕ) (h : Writable c layer round past (valuesIn c layer values) buffer) (from k w : ℕ)
-    (before : GatesBefore c layer from) (ek : k ≡ exponentAt c layer) (ew : w ≡ widthOf k) where
+module _ (c : List ℕ) (layer round : ℕ) (past values buffer : List ℕ) (h : Writable c layer round past (valuesIn c layer values) buffer) (from w : ℕ)
+    (before : GatesBefore c layer from) (ew : w ≡ widthOf (exponentAt c layer)) where
   at-from : from ≡ gatesBefore c layer
   at-from = before .counted (own-layer c layer round past (h .there))
 
   wide : w ≡ 2 ^ exponentAt c layer
-  wide = ew ∙ ap widthOf ek ∙ exponent-width c layer (own-layer c layer round past (h .there))
+  wide = ew ∙ exponent-width c layer (own-layer c layer round past (h .there))
 
   pub part-inside : from + w ≤ length values
   part-inside =

@@ -118,7 +118,7 @@ module _ (c : List ℕ) (layer round : ℕ) (past vs buffer : List ℕ) (h : Wri
       cond b (lineMessage N vs (take k xs) (drop k xs)) (sumMessage N k (gatesAbove c layer) (pointAt c layer past) vs xs)
 
   -- a message has its round's length
-  pub message-size : length (messageFrom c vs (place layer round) past) ≡ messageLength c (place layer round)
+  message-size : length (messageFrom c vs (place layer round) past) ≡ messageLength c (place layer round)
   message-size = go (isLine c (place layer round)) refl
     where
       N : Numbers ℕ
@@ -152,9 +152,9 @@ module _ (c : List ℕ) (layer round : ℕ) (past vs buffer : List ℕ) (h : Wri
     abbrev rows : List (List ℕ)
     rows = s .u ∷ s .v ∷ []
 
-    pub sum-words : isLine c (place layer round) ≡ false → (gates : List ℕ) → GatesAbove c layer gates → (r : List ℕ)
-        → r ≡ summed (primeOf c) gates vs round s → r ≡ messageFrom c vs (place layer round) past
-    sum-words nl gates above r e =
+    pub sum-words : isLine c (place layer round) ≡ false → (gates : List ℕ) → GatesAbove c layer gates
+        → summed (primeOf c) gates vs round s ≡ messageFrom c vs (place layer round) past
+    sum-words nl gates above =
         let N = words (primeOf c) in
         let k : ℕ = exponentAt c layer in
         let xs : List ℕ = fixed c layer past in
@@ -170,14 +170,14 @@ module _ (c : List ℕ) (layer round : ℕ) (past vs buffer : List ℕ) (h : Wri
         (omega (arith, reached, ne)) (t .first .size) (t .second .size) (h .sized) wired (le-of-eq (count-above ∙ ap (λ (n : ℕ). 2 ^ n) (sym (point-size c layer round past here)))) in
         let back : take round (take k (s .u) ++ take k (s .v)) ≡ xs =
         ap (λ (n : ℕ). take n (take k (s .u) ++ take k (s .v))) (sym size) ∙ rows-back k xs (s .u) (s .v) small (omega arith) (t .first) (t .second) in
-        e ∙ ap (λ (n : ℕ). ms n (gatesIn gates) (take (s .above) (s .point))) (t .own)
+        ap (λ (n : ℕ). ms n (gatesIn gates) (take (s .above) (s .point))) (t .own)
         ∙ ap₂ (ms k) (gates-above c layer round past here gates above) point ∙ law
         ∙ ap (sumMessage N k (gatesAbove c layer) (pointAt c layer past) vs) back
         ∙ sym (ap either nl)
 
-    pub line-words : isLine c (place layer round) ≡ true → (r : List ℕ) (n : ℕ) → n ≡ messageLength c (place layer round)
-        → r ≡ lined (primeOf c) vs s → take n r ≡ messageFrom c vs (place layer round) past
-    line-words il r n en e =
+    pub line-words : isLine c (place layer round) ≡ true → (n : ℕ) → n ≡ messageLength c (place layer round)
+        → take n (lined (primeOf c) vs s) ≡ messageFrom c vs (place layer round) past
+    line-words il n en =
         let N = words (primeOf c) in
         let k : ℕ = exponentAt c layer in
         let xs : List ℕ = fixed c layer past in
@@ -191,7 +191,7 @@ module _ (c : List ℕ) (layer round : ℕ) (past vs buffer : List ℕ) (h : Wri
         let same : length (take k xs) ≡ length (drop k xs) = wide-u ∙ sym wide-v in
         let count : length (lineHalving N vs (take k xs) (drop k xs)) ≡ n =
         length-lineHalving N vs (take k xs) (drop k xs) same ∙ ap suc wide-u ∙ sym (add-one k) ∙ length-of-line c (place layer round) il ∙ sym en in
-        take-front (lineHalving N vs (take k xs) (drop k xs)) _ r n (e ∙ ap₂ (λ (a b : List ℕ). padded (lineHalving N vs a b)) u v) count
+        take-front (lineHalving N vs (take k xs) (drop k xs)) _ _ n (ap₂ (λ (a b : List ℕ). padded (lineHalving N vs a b)) u v) count
         ∙ line-by-halves (primeOf c) prime vs (take k xs) (drop k xs) same (let p = least in omega (arith, wide-u, small))
         (h .sized ∙ ap (λ (m : ℕ). 2 ^ m) (sym wide-u)) (h .residues)
         ∙ sym (ap either il)

@@ -68,6 +68,13 @@ named c prefix r h =
 
 -- THE ANSWER
 module _ (c input prefix before : List ℕ) where
+  -- nothing is wrong with the lists, and the round that follows the prefix has its message due
+  pub record Due (here : Place) : Type 0 where
+    pub none : listsCause c input ≡ 0
+    pub few : length prefix < coinCount c
+    pub residues : allBelow (primeOf c) prefix ≡ true
+    pub there : AtRound c here (length prefix)
+
   -- a cause, whatever it is, leaves the buffer
   by-cause : (cause : Cause) → proveOneCause c input prefix before ≡ numberOf cause → ProvesOne c input prefix before (Refused cause) before
   unfolding proveOneAnswer proveOneBuffer
@@ -85,32 +92,32 @@ module _ (c input prefix before : List ℕ) where
     unfolding proveOneCause
     one-count l = by-cause CoinCount (simp (none, le-ltb (length prefix) (coinCount c) l))
 
-    module _ (few : length prefix < coinCount c) where
-      pub one-word : allBelow (primeOf c) prefix ≡ false → ProvesOne c input prefix before (Refused CoinWord) before
-      unfolding proveOneCause
-      one-word e = by-cause CoinWord (simp (none, lt-ltb (length prefix) (coinCount c) few, e))
+    pub one-word : length prefix < coinCount c → allBelow (primeOf c) prefix ≡ false → ProvesOne c input prefix before (Refused CoinWord) before
+    unfolding proveOneCause
+    one-word few e = by-cause CoinWord (simp (none, lt-ltb (length prefix) (coinCount c) few, e))
 
-      module _ (residues : allBelow (primeOf c) prefix ≡ true) (here : Place) (there : AtRound c here (length prefix)) where
-        only-room : proveOneCause c input prefix before ≡ need (leb (messageLength c here) (length before)) 10 0
-        unfolding proveOneCause
-        only-room = simp (none, lt-ltb (length prefix) (coinCount c) few, residues, named c prefix here there)
+  module _ {here : Place} (due : Due here) where
+    only-room : proveOneCause c input prefix before ≡ need (leb (messageLength c here) (length before)) 10 0
+    unfolding proveOneCause
+    only-room = simp (due .none, lt-ltb (length prefix) (coinCount c) (due .few), due .residues, named c prefix here (due .there))
 
-        pub one-short : length before < messageLength c here → ProvesOne c input prefix before (Refused BufferShort) before
-        one-short l = by-cause BufferShort (only-room ∙ ap (λ (b : Bool). need b 10 0) (lt-leb (messageLength c here) (length before) l))
+    pub one-short : length before < messageLength c here → ProvesOne c input prefix before (Refused BufferShort) before
+    one-short l = by-cause BufferShort (only-room ∙ ap (λ (b : Bool). need b 10 0) (lt-leb (messageLength c here) (length before) l))
 
-        -- the honest message over the buffer
-        pub one-written : (n : ℕ) (values after : List ℕ) → n ≡ messageLength c here → n ≤ length before → AllValues c input values
-            → after ≡ over (messageFrom c (valuesIn c (here .layer) values) here prefix) before → ProvesOne c input prefix before (Written n) after
-        unfolding proveOneAnswer proveOneBuffer honest
-        one-written n values after en room a e =
-            let name : here ≡ placeOf c prefix = sym (named c prefix here there) in
-            let fits = le-leb (messageLength c here) (length before) (omega arith) in
-            let none-left : proveOneCause c input prefix before ≡ 0 = only-room ∙ ap (λ (b : Bool). need b 10 0) fits in
-            let said : List ℕ = honest c input (placeOf c prefix) prefix in
-            let same : messageFrom c (valuesIn c (here .layer) values) here prefix ≡ said =
-            ap (λ (vs : List ℕ). messageFrom c vs here prefix) (layer-values c input none values a (here .layer) (there .last))
-            ∙ ap (λ (r : Place). honest c input r prefix) name in
-            record {
-              answer = ap wrote (en ∙ ap (messageLength c) name) ∙ sym (ap (λ (k : ℕ). oneOf k (messageLength c (placeOf c prefix))) none-left);
-              buffer = e ∙ ap (λ (m : List ℕ). over m before) same ∙ sym (ap (λ (k : ℕ). cond (eqb k 0) (over said before) before) none-left);
-            }
+    -- the honest message over the buffer
+    pub one-written : {values after : List ℕ} → messageLength c here ≤ length before → AllValues c input values
+        → after ≡ over (messageFrom c (valuesIn c (here .layer) values) here prefix) before
+        → ProvesOne c input prefix before (Written (messageLength c here)) after
+    unfolding proveOneAnswer proveOneBuffer honest
+    one-written {values} room a e =
+        let name : here ≡ placeOf c prefix = sym (named c prefix here (due .there)) in
+        let fits = le-leb (messageLength c here) (length before) room in
+        let none-left : proveOneCause c input prefix before ≡ 0 = only-room ∙ ap (λ (b : Bool). need b 10 0) fits in
+        let said : List ℕ = honest c input (placeOf c prefix) prefix in
+        let same : messageFrom c (valuesIn c (here .layer) values) here prefix ≡ said =
+        ap (λ (vs : List ℕ). messageFrom c vs here prefix) (layer-values c input (due .none) values a (here .layer) (due .there .last))
+        ∙ ap (λ (r : Place). honest c input r prefix) name in
+        record {
+          answer = ap wrote (ap (messageLength c) name) ∙ sym (ap (λ (k : ℕ). oneOf k (messageLength c (placeOf c prefix))) none-left);
+          buffer = e ∙ ap (λ (m : List ℕ). over m before) same ∙ sym (ap (λ (k : ℕ). cond (eqb k 0) (over said before) before) none-left);
+        }

@@ -122,13 +122,11 @@ module _ (c input cs : List ℕ) (s : Session) (h : Fitting c input cs s) (n : �
       after = after ∙ sym (ap (λ (x : Answer × Record Place). x .1) (step-ends k e));
     }
 
-    pub passed-open : cause ≡ 0 → (y : ℕ) → y ≡ messageAt c m coin → (r : Stepped) → GoesOn c input cs s coin y r → StepsOpen c input cs s m r
-    passed-open e y ey r goes =
-        let same = step-goes e ∙ ap (λ (v : ℕ). goesOn c input cs s coin v (isLast c here)) (sym ey) in
-        record {
-          answer = goes .answer ∙ sym (ap (λ (x : Answer × Record Place). x .0) same);
-          after = goes .after ∙ sym (ap (λ (x : Answer × Record Place). x .1) same);
-        }
+    pub passed-open : cause ≡ 0 → (r : Stepped) → GoesOn c input cs s coin (messageAt c m coin) r → StepsOpen c input cs s m r
+    passed-open e r goes = record {
+      answer = goes .answer ∙ sym (ap (λ (x : Answer × Record Place). x .0) (step-goes e));
+      after = goes .after ∙ sym (ap (λ (x : Answer × Record Place). x .1) (step-goes e));
+    }
 
 -- A STEP, refusal by refusal
 module _ (c input cs : List ℕ) (s : Session) (m : List ℕ) where

@@ -14,7 +14,7 @@ use Rattle.circuit.specs.Circuit.{primeOf, depth, exponents, exponentAt}
 use Rattle.circuit.specs.Sized.{LayerOf, LegalCircuit}
 use Rattle.circuit.proofs.Loading.{split-true, legal-lists}
 use Rattle.circuit.proofs.Sized.{deep, exponent-small, layer-of}
-use Rattle.walk.specs.Session.{accepted, goOn, refused, Record, at, ended, stepFinal}
+use Rattle.walk.specs.Session.{goOn, Record, at, ended, stepFinal}
 use Rattle.protocol.specs.Rounds.{Place, place, coinsBefore, isLine, isLast, AtRound}
 use Rattle.protocol.specs.Judge.{inputAgrees}
 use Rattle.protocol.specs.Session.{recordFits}
@@ -124,16 +124,13 @@ module _ (c input cs : List ℕ) (s : Session) (h : Fitting c input cs s) where
         (after ∙ ap (λ (i : ℕ). at (place i 0) y) (add-one (s .layer))
         ∙ ap (λ (b : Bool). at (cond b (place (suc (s .layer)) 0) (place (s .layer) (suc (s .round)))) y) (sym e))
 
-    module _ (e : isLine c (place (s .layer) (s .round)) ≡ true) (ne : ¬ (s .layer < depth c)) (r : Stepped) (after : recordOf (r .session) ≡ ended (recordOf s)) where
-      is-last : isLast c (place (s .layer) (s .round)) ≡ true
-      is-last = ap (λ (b : Bool). b && eqb (s .layer) (length (exponents c))) e ∙ eq-eqb (s .layer) (length (exponents c)) (at-end ne)
-
-      pub goes-accepted : inputAgrees c input cs y ≡ true → verdictOf (r .verdict) ≡ accepted → GoesOn c input cs s coin y r
-      goes-accepted a answer =
-          goes true is-last r (answer ∙ ap (λ (b : Bool). stepFinal b (recordOf s) .0) (sym a))
-          (after ∙ ap (λ (b : Bool). stepFinal b (recordOf s) .1) (sym a))
-
-      pub goes-refused : inputAgrees c input cs y ≡ false → verdictOf (r .verdict) ≡ refused 18 → GoesOn c input cs s coin y r
-      goes-refused a answer =
-          goes true is-last r (answer ∙ ap (λ (b : Bool). stepFinal b (recordOf s) .0) (sym a))
-          (after ∙ ap (λ (b : Bool). stepFinal b (recordOf s) .1) (sym a))
+    -- the last comparison ends the session, whatever it says
+    pub goes-ended : isLine c (place (s .layer) (s .round)) ≡ true → ¬ (s .layer < depth c) → (r : Stepped) → recordOf (r .session) ≡ ended (recordOf s)
+        → verdictOf (r .verdict) ≡ stepFinal (inputAgrees c input cs y) (recordOf s) .0 → GoesOn c input cs s coin y r
+    goes-ended e ne r after answer =
+        goes true (ap (λ (b : Bool). b && eqb (s .layer) (length (exponents c))) e ∙ eq-eqb (s .layer) (length (exponents c)) (at-end ne)) r answer
+        (after ∙ ends (inputAgrees c input cs y))
+      where
+        ends : (b : Bool) → ended (recordOf s) ≡ stepFinal b (recordOf s) .1
+        ends true = refl
+        ends false = refl

@@ -33,7 +33,11 @@ module _ (c : List ℕ) where
     pub counted : n ≡ layerStart c layer + round
     pub left : P (before-round c layer round) n
 
-  module _ (legal : LegalCircuit c) (P : List Place → ℕ → Type 0) where
+  -- the layer that a walk starts at
+  pub first-layer : LegalCircuit c → LayerSoFar c 1
+  first-layer legal = record { legal = legal; first = omega arith; last = omega arith }
+
+  module _ (legal : LegalCircuit c) {P : List Place → ℕ → Type 0} where
     pub loops-start : (n : ℕ) → n ≡ layerStart c 1 → P (rounds c) (outputExponent c) → BeforeLayer P 1 n
     loops-start n e p = record {
       first = omega arith;
@@ -42,19 +46,15 @@ module _ (c : List ℕ) where
       left = subst (P (rounds c)) (omega (arith, e, sum-nil)) p;
     }
 
-    -- the layer that a walk starts at
-    pub first-layer : LayerSoFar c 1
-    first-layer = record { legal = legal; first = omega arith; last = omega arith }
-
-    pub loops-end : (layer n : ℕ) → BeforeLayer P layer n → depth c < layer → P [] n
-    loops-end zero n b out = absurd (omega arith)
-    loops-end (suc l) n b out =
+    pub loops-end : {layer n : ℕ} → BeforeLayer P layer n → depth c < layer → P [] n
+    loops-end {layer = zero} b out = absurd (omega arith)
+    loops-end {layer = suc l} {n} b out =
         let low = b .last in
         subst (λ (ps : List Place). P ps n) (none-left c l (omega (arith, deep c legal))) (b .left)
 
-    pub layer-starts : (layer n : ℕ) → BeforeLayer P layer n → layer ≤ depth c → BeforeRound P layer 0 n
-    layer-starts zero n b inside = absurd (let low : 1 ≤ 0 = b .first in omega arith)
-    layer-starts (suc l) n b inside = record {
+    pub layer-starts : {layer n : ℕ} → BeforeLayer P layer n → layer ≤ depth c → BeforeRound P layer 0 n
+    layer-starts {layer = zero} b inside = absurd (let low : 1 ≤ 0 = b .first in omega arith)
+    layer-starts {layer = suc l} {n} b inside = record {
       first = b .first;
       last = inside;
       reached = omega arith;
@@ -62,9 +62,9 @@ module _ (c : List ℕ) where
       left = subst (λ (ps : List Place). P ps n) (layer-opens c l (omega (arith, deep c legal))) (b .left);
     }
 
-    pub layer-ends : (layer round n : ℕ) → BeforeRound P layer round n → 2 * exponentAt c layer + 1 ≤ round → BeforeLayer P (layer + 1) n
-    layer-ends zero round n b done = absurd (let low : 1 ≤ 0 = b .first in omega arith)
-    layer-ends (suc l) round n b done =
+    pub layer-ends : {layer round n : ℕ} → BeforeRound P layer round n → 2 * exponentAt c layer + 1 ≤ round → BeforeLayer P (layer + 1) n
+    layer-ends {layer = zero} b done = absurd (let low : 1 ≤ 0 = b .first in omega arith)
+    layer-ends {layer = suc l} {round} {n} b done =
         let reached = b .reached in
         let inside = b .last in
         let all : 2 * exponentAt c (suc l) + 1 ≡ round = omega arith in
@@ -78,12 +78,12 @@ module _ (c : List ℕ) where
           left = subst (λ (i : ℕ). P (before-layer c i) n) up (subst (λ (ps : List Place). P ps n) (layer-closes c (suc l) round all) (b .left));
         }
 
-    module _ (layer round n : ℕ) (b : BeforeRound P layer round n) (more : round < 2 * exponentAt c layer + 1) where
+    module _ {layer round n : ℕ} (b : BeforeRound P layer round n) (more : round < 2 * exponentAt c layer + 1) where
       pub round-opened : P (place layer round ∷ before-round c layer (round + 1)) n
       round-opened = subst (λ (ps : List Place). P ps n) (round-opens c layer round more) (b .left)
 
-      pub round-next : (Q : List Place → ℕ → Type 0) → Q (before-round c layer (round + 1)) (n + 1) → BeforeRound Q layer (round + 1) (n + 1)
-      round-next Q q = record { first = b .first; last = b .last; reached = omega arith; counted = omega (arith, b .counted); left = q }
+      pub round-next : {Q : List Place → ℕ → Type 0} → Q (before-round c layer (round + 1)) (n + 1) → BeforeRound Q layer (round + 1) (n + 1)
+      round-next q = record { first = b .first; last = b .last; reached = omega arith; counted = omega (arith, b .counted); left = q }
 
       pub round-place : (cs : List ℕ) → n ≤ length cs → AtRound c (place layer round) (length (take n cs))
       round-place cs there = record {

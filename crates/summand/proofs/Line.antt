@@ -42,17 +42,16 @@ module _ {C : Type 0} (N : Numbers C) where
     drawn = stored-start (linePoint N u v t) line (omega (arith, length-line N n u v t eu ev));
   }
 
-  pub step : (n : ℕ) (u v : List C) (t d x : C) (line₀ line : List C) (i : ℕ) → Drawn n u v t line₀ line i → i < n
-      → x ≡ N .add (getD u i d) (N .mul t (N .sub (getD v i d) (getD u i d)))
-      → Drawn n u v t line₀ (set line i x) (i + 1)
-  step n u v t d x line₀ line i h more e =
+  pub step : (n : ℕ) (u v : List C) (t : C) (line₀ line : List C) (i : ℕ) → Drawn n u v t line₀ line i → i < n
+      → Drawn n u v t line₀ (set line i (N .add (getD u i (N .𝟘)) (N .mul t (N .sub (getD v i (N .𝟘)) (getD u i (N .𝟘)))))) (i + 1)
+  step n u v t line₀ line i h more =
       let eu = h .length-u in
       let ev = h .length-v in
       record {
         length-u = eu;
         length-v = ev;
         length-before = h .length-before;
-        drawn = next (h .drawn) d x (omega (arith, length-line N n u v t eu ev)) (e ∙ sym (getD-line i u v t d (omega arith) (omega arith)));
+        drawn = next (h .drawn) (N .𝟘) _ (omega (arith, length-line N n u v t eu ev)) (sym (getD-line i u v t (N .𝟘) (omega arith) (omega arith)));
       }
 
   pub end : (n : ℕ) (u v : List C) (t : C) (line₀ line : List C) (i : ℕ) → Drawn n u v t line₀ line i → n ≤ i → line ≡ linePoint N u v t

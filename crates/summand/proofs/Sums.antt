@@ -49,58 +49,65 @@ module _ (p : ℕ) (ws point u v : List ℕ) where
   abbrev kindOn : ℕ → ℕ → ℕ
   kindOn kind a = sumOn (words p) (counted kind) (length ws / 3) ws a
 
+  -- gate a has its kind's sum at this place, and this weight
+  pub record Known (a i w : ℕ) : Type 0 where
+    pub placed-at : i ≡ placeOf (getD ws (3 * a) 0)
+    pub inside : i < maxKind
+    pub weighed : w ≡ gateWeight (words p) point u v a (getD ws (3 * a + 1) 0) (getD ws (3 * a + 2) 0)
+
   pub record Passed (sums : List ℕ) (a : ℕ) : Type 0 where
+    pub positive : 0 < p
     pub within : a ≤ length ws / 3
     pub sized : length sums ≡ maxKind
     pub each : (i : ℕ) → i < maxKind → getD sums i 0 ≡ kindOn (suc i) a
 
-  pub start : Passed (replicate maxKind 0) (length ws / 3)
-  start = record {
+  pub start : 0 < p → Passed (replicate maxKind 0) (length ws / 3)
+  start pos = record {
+    positive = pos;
     within = omega arith;
     sized = refl;
     each = λ i h. getD-replicate {A = ℕ} maxKind i 0 0 h ∙ sum-none (words p) (counted (suc i)) (length ws / 3) ws;
   }
 
-  module _ (pos : 0 < p) (sums : List ℕ) (a : ℕ) (h : Passed sums a) (more : 0 < a) where
+  module _ {sums : List ℕ} {a : ℕ} (h : Passed sums a) (more : 0 < a) where
     step : (kind x : ℕ) → x ≡ counted kind (a - 1) (gateAt ws (a - 1)) → (x + kindOn kind a) % p ≡ kindOn kind (a - 1)
     step kind x e = sum-step (words p) (counted kind) (length ws / 3) ws a x (kindOn kind a) more (h .within) e refl
 
     -- a gate of another kind
     other-kind : (kind : ℕ) → getD ws (3 * (a - 1)) 0 ≢ kind → kindOn kind a ≡ kindOn kind (a - 1)
     other-kind kind ne =
-        sym (plus-zero p (kindOn kind a) (sumFrom-below p pos (counted kind) a (gatesOf (length ws / 3 - a) (drop (3 * a) ws))))
+        sym (plus-zero p (kindOn kind a) (sumFrom-below p (h .positive) (counted kind) a (gatesOf (length ws / 3 - a) (drop (3 * a) ws))))
         ∙ step kind 0 (simp (ne-eqb (getD ws (3 * (a - 1)) 0) kind ne))
 
     -- the gate's kind has no sum
     pub none-counts : maxKind ≤ placeOf (getD ws (3 * (a - 1)) 0) → Passed sums (a - 1)
     none-counts past = record {
+      positive = h .positive;
       within = let w = h .within in omega arith;
       sized = h .sized;
       each = λ i l. h .each i l ∙ other-kind (suc i) (not-placed (getD ws (3 * (a - 1)) 0) past i l);
     }
 
     -- it has one, and the gate's weight is added there
-    pub one-counts : (i w x : ℕ) → i ≡ placeOf (getD ws (3 * (a - 1)) 0) → i < maxKind
-        → w ≡ gateWeight (words p) point u v (a - 1) (getD ws (3 * (a - 1) + 1) 0) (getD ws (3 * (a - 1) + 2) 0) → x ≡ (w + getD sums i 0) % p
-        → Passed (set sums i x) (a - 1)
-    one-counts i w x ei l ew ex = record {
+    pub one-counts : {i w : ℕ} → Known (a - 1) i w → Passed (set sums i ((w + getD sums i 0) % p)) (a - 1)
+    one-counts {i} {w} k = record {
+      positive = h .positive;
       within = let w = h .within in omega arith;
-      sized = length-set sums i x ∙ h .sized;
+      sized = length-set sums i _ ∙ h .sized;
       each = λ j m. at j m (eqb j i) refl;
     }
       where
         kind : getD ws (3 * (a - 1)) 0 ≡ suc i
-        kind = placed (getD ws (3 * (a - 1)) 0) (omega arith) ∙ ap suc (sym ei)
+        kind = placed (getD ws (3 * (a - 1)) 0) (omega (arith, k .placed-at, k .inside)) ∙ ap suc (sym (k .placed-at))
 
-        at : (j : ℕ) → j < maxKind → (b : Bool) → eqb j i ≡ b → getD (set sums i x) j 0 ≡ kindOn (suc j) (a - 1)
+        at : (j : ℕ) → j < maxKind → (b : Bool) → eqb j i ≡ b → getD (set sums i ((w + getD sums i 0) % p)) j 0 ≡ kindOn (suc j) (a - 1)
         at j m true e =
-            let size = h .sized in
             rw (eqb-true j i e)
-            (getD-set-same sums i x 0 (omega arith) ∙ ex ∙ ap (λ (s : ℕ). (w + s) % p) (h .each i l)
-            ∙ step (suc i) w (ew ∙ simp (eq-eqb (getD ws (3 * (a - 1)) 0) (suc i) kind)))
+            (getD-set-same sums i _ 0 (omega (arith, h .sized, k .inside)) ∙ ap (λ (s : ℕ). (w + s) % p) (h .each i (k .inside))
+            ∙ step (suc i) w (k .weighed ∙ simp (eq-eqb (getD ws (3 * (a - 1)) 0) (suc i) kind)))
         at j m false e =
             let ne : j ≢ i = eqb-false j i e in
-            getD-set-other sums i j x 0 ne ∙ h .each j m ∙ other-kind (suc j) (λ same. ne (omega (arith, kind)))
+            getD-set-other sums i j _ 0 ne ∙ h .each j m ∙ other-kind (suc j) (λ same. ne (omega (arith, kind)))
 
   pub end : (sums : List ℕ) (a : ℕ) → Passed sums a → a ≡ 0 → sums ≡ wirings (words p) (gatesIn ws) point u v
   unfolding wiring

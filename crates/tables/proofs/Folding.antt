@@ -52,9 +52,10 @@ module _ {C : Type 0} (N : Numbers C) (point vs : List C) where
     holds = e ∙ sym (folded-none N vs);
   }
 
-  pub fix-next : (l part : List C) (n i : ℕ) (d r : C) → Fixed l n i → i < length point → r ≡ getD point i d
-      → part ≡ over (fold N r (take n l)) (take n l) → Fixed (part ++ drop n l) (n / 2) (i + 1)
-  fix-next l part n i d r h more er e =
+  pub fix-next : (l part : List C) (n i : ℕ) → Fixed l n i → i < length point
+      → part ≡ over (fold N (getD point i (N .𝟘)) (take n l)) (take n l) → Fixed (part ++ drop n l) (n / 2) (i + 1)
+  fix-next l part n i h more e =
+      let r : C = getD point i (N .𝟘) in
       let within = h .within in
       let size = h .size in
       let count : length (take n l) ≡ n = length-take-le n l (omega arith) in
@@ -64,9 +65,9 @@ module _ {C : Type 0} (N : Numbers C) (point vs : List C) where
         within = omega arith;
         size = length-back l part (fold N r (take n l)) n e (omega arith) (omega arith) ∙ size;
         holds = ap (λ (m : ℕ). take m (part ++ drop n l)) (sym halved) ∙ front-back l part (fold N r (take n l)) n e
-            ∙ ap₂ (fold N) er (h .holds) ∙ sym (folded-one N (getD point i d) (folded N (take i point) vs))
-            ∙ sym (folded-append N (take i point) (getD point i d ∷ []) vs)
-            ∙ ap (λ (xs : List C). folded N xs vs) (sym (take-up point i d more));
+            ∙ ap (fold N r) (h .holds) ∙ sym (folded-one N r (folded N (take i point) vs))
+            ∙ sym (folded-append N (take i point) (r ∷ []) vs)
+            ∙ ap (λ (xs : List C). folded N xs vs) (sym (take-up point i (N .𝟘) more));
       }
 
   pub all-fixed : (l : List C) (n i : ℕ) → Fixed l n i → length point ≤ i → take n l ≡ folded N point vs

@@ -70,15 +70,15 @@ module _ {C : Type 0} (N : Numbers C) (z : C) (t₀ : List C) where
   scaled b c d h =
       sym (getD-map-lt (λ w. N .mul c w) (take half t₀) b d d (omega (arith, length-front)) ∙ ap (N .mul c) (getD-take half t₀ b d h))
 
-  pub step : (t : List C) (b : ℕ) (d x y : C) → Spread t b → b < half → x ≡ N .mul z (getD t b d)
-      → y ≡ N .mul (N .sub (N .𝟙) z) (getD t b d) → Spread (set (set t (half + b) x) b y) (b + 1)
-  step t b d x y h more ex ey =
+  pub step : (t : List C) (b : ℕ) (x y : C) → Spread t b → b < half → x ≡ N .mul z (getD t b (N .𝟘))
+      → y ≡ N .mul (N .sub (N .𝟙) z) (getD t b (N .𝟘)) → Spread (set (set t (half + b) x) b y) (b + 1)
+  step t b x y h more ex ey =
       let lows = h .lows in
       let highs = h .highs in
       let size : length lows ≡ half = h .below .size ∙ length-front in
-      let same : getD t b d ≡ getD t₀ b d =
-      ap (λ (l : List C). getD l b d) (h .written) ∙ List·getD-append lows highs d b (omega arith)
-      ∙ kept (h .below) b d (omega arith) ∙ getD-take half t₀ b d more in
+      let same : getD t b (N .𝟘) ≡ getD t₀ b (N .𝟘) =
+      ap (λ (l : List C). getD l b (N .𝟘)) (h .written) ∙ List·getD-append lows highs (N .𝟘) b (omega arith)
+      ∙ kept (h .below) b (N .𝟘) (omega arith) ∙ getD-take half t₀ b (N .𝟘) more in
       record {
         lows = set lows b y;
         highs = set highs b x;
@@ -86,8 +86,8 @@ module _ {C : Type 0} (N : Numbers C) (z : C) (t₀ : List C) where
             ∙ ap (λ (n : ℕ). set (set (lows ++ highs) (n + b) x) b y) (sym size)
             ∙ ap (λ (l : List C). set l b y) (set-append-add lows highs b x)
             ∙ set-append-left lows (set highs b x) b y (omega arith);
-        below = next (h .below) d y (omega (arith, length-low)) (ey ∙ ap (N .mul (N .sub (N .𝟙) z)) same ∙ scaled b (N .sub (N .𝟙) z) d more);
-        above = next (h .above) d x (omega (arith, length-high)) (ex ∙ ap (N .mul z) same ∙ scaled b z d more);
+        below = next (h .below) (N .𝟘) y (omega (arith, length-low)) (ey ∙ ap (N .mul (N .sub (N .𝟙) z)) same ∙ scaled b (N .sub (N .𝟙) z) (N .𝟘) more);
+        above = next (h .above) (N .𝟘) x (omega (arith, length-high)) (ex ∙ ap (N .mul z) same ∙ scaled b z (N .𝟘) more);
       }
 
   pub end : (t : List C) (b : ℕ) → Spread t b → half ≤ b → t ≡ over (spread N z (take half t₀)) t₀
@@ -134,10 +134,10 @@ module _ {C : Type 0} (N : Numbers C) (point : List C) where
       let reached = h .reached in
       omega (arith, h .count, two-pow-succ (length point - left), weights-fit (suc (length point - left)) (omega arith))
 
-  pub weigh-next : (l part : List C) (n left : ℕ) (d z : C) → Weighed l n left → 0 < left → z ≡ getD point (left - 1) d
+  pub weigh-next : (l part : List C) (n left : ℕ) (z : C) → Weighed l n left → 0 < left → z ≡ getD point (left - 1) (N .𝟘)
       → part ≡ over (spread N z (take (length (take (2 * n) l) / 2) (take (2 * n) l))) (take (2 * n) l)
       → Weighed (part ++ drop (2 * n) l) (2 * n) (left - 1)
-  weigh-next l part n left d z h more ez e =
+  weigh-next l part n left z h more ez e =
       let fits = room l n left h more in
       let size = h .size in
       let reached = h .reached in
@@ -149,7 +149,7 @@ module _ {C : Type 0} (N : Numbers C) (point : List C) where
       ap (λ (m : ℕ). take m (take (2 * n) l)) lent ∙ take-take n (2 * n) l (omega arith) ∙ h .holds in
       let ws : List C = spread N z (take (length (take (2 * n) l) / 2) (take (2 * n) l)) in
       let made : ws ≡ weights N (drop (left - 1) point) =
-      ap₂ (spread N) ez before ∙ sym (ap (weights N) (drop-down point left d more reached) ∙ weights-more N (getD point (left - 1) d) (drop left point)) in
+      ap₂ (spread N) ez before ∙ sym (ap (weights N) (drop-down point left (N .𝟘) more reached) ∙ weights-more N (getD point (left - 1) (N .𝟘)) (drop left point)) in
       let all : length ws ≡ 2 * n =
       ap length made ∙ length-weights N (drop (left - 1) point) ∙ ap (λ (k : ℕ). 2 ^ k) (length-drop (left - 1) point) ∙ sym twice in
       record {

@@ -38,12 +38,18 @@ module _ (c ms before : List ℕ) where
     pub coins : ℕ
     pub stands : loops.BeforeRound c (Left text at to) layer round coins
 
+  -- a round of a legal circuit whose line is due
+  pub record Due (text : List ℕ) (at to layer round : ℕ) : Type 0 where
+    pub legal : LegalCircuit c
+    pub here : BeforeRound text at to layer round
+    pub more : round < 2 * exponentAt c layer + 1
+
   module _ (legal : LegalCircuit c) where
     pub lines-start : length ms ≡ messageWords c → BeforeLayer before 0 0 1
     lines-start e = record {
       coins = layerStart c 1;
       stands =
-          loops.loops-start c legal (Left before 0 0) (layerStart c 1) refl
+          loops.loops-start c legal (layerStart c 1) refl
           (record {
             done = [];
             wrote = wrote-none before;
@@ -52,53 +58,50 @@ module _ (c ms before : List ℕ) where
           });
     }
 
-    module _ (text : List ℕ) (at to layer : ℕ) where
+    module _ {text : List ℕ} {at to layer : ℕ} where
       pub layer-starts : BeforeLayer text at to layer → layer ≤ depth c → BeforeRound text at to layer 0
-      layer-starts b inside =
-          record { coins = b .coins; stands = loops.layer-starts c legal (Left text at to) layer (b .coins) (b .stands) inside }
+      layer-starts b inside = record { coins = b .coins; stands = loops.layer-starts c legal (b .stands) inside }
+
+      pub layer-ends : {round : ℕ} → BeforeRound text at to layer round → 2 * exponentAt c layer + 1 ≤ round → BeforeLayer text at to (layer + 1)
+      layer-ends b done = record { coins = b .coins; stands = loops.layer-ends c legal (b .stands) done }
 
       pub lines-end : BeforeLayer text at to layer → depth c < layer → Wrote (messagesText c (rounds c) ms) before text to
       unfolding messagesText
       lines-end b out =
-          let left = loops.loops-end c legal (Left text at to) layer (b .coins) (b .stands) out in
+          let left = loops.loops-end c legal (b .stands) out in
           wrote-as (left .done) before text to (left .wrote) (messagesText c (rounds c) ms) (sym (append-nil (left .done)) ∙ left .whole)
 
-      module _ (round : ℕ) (b : BeforeRound text at to layer round) where
-        pub layer-ends : 2 * exponentAt c layer + 1 ≤ round → BeforeLayer text at to (layer + 1)
-        layer-ends done =
-            record { coins = b .coins; stands = loops.layer-ends c legal (Left text at to) layer round (b .coins) (b .stands) done }
+  module _ {text : List ℕ} {at to layer round : ℕ} (due : Due text at to layer round) where
+    abbrev len : ℕ
+    len = messageLength c (place layer round)
 
-        module _ (more : round < 2 * exponentAt c layer + 1) where
-          left : Left text at to (place layer round ∷ before-round c layer (round + 1)) (b .coins)
-          left = loops.round-opened c legal (Left text at to) layer round (b .coins) (b .stands) more
+    left : Left text at to (place layer round ∷ before-round c layer (round + 1)) (due .here .coins)
+    left = loops.round-opened c (due .legal) (due .here .stands) (due .more)
 
-          pub words-there : at + messageLength c (place layer round) ≤ length ms
-          words-there = sum-there (messageLength c) (place layer round) (before-round c layer (round + 1)) at (length ms) (left .counted)
+    pub words-there : at + len ≤ length ms
+    words-there = sum-there (messageLength c) (place layer round) (before-round c layer (round + 1)) at (length ms) (left .counted)
 
-          pub round-done : (w : ℕ) → w ≡ messageLength c (place layer round) → (part : List ℕ) (n : ℕ)
-              → Wrote (lineText (wordOf c (place layer round)) (take (at + w - at) (drop at ms)))
-              (take (length text - to) (drop to text)) part n
-              → BeforeRound (take to text ++ (part ++ drop (length text - to) (drop to text))) (at + w) (to + n) layer (round + 1)
-          unfolding messagesText
-          round-done w e part n v =
-              let rest : List Place = before-round c layer (round + 1) in
-              let len : ℕ = messageLength c (place layer round) in
-              let cut : at + w - at ≡ w = omega arith in
-              let line : List ℕ = lineText (wordOf c (place layer round)) (take (at + w - at) (drop at ms)) in
-              let same : line ≡ lineText (wordOf c (place layer round)) (take len (drop at ms)) =
-              ap (λ (i : ℕ). lineText (wordOf c (place layer round)) (take i (drop at ms))) (cut ∙ e) in
-              let behind : drop (at + w) ms ≡ drop len (drop at ms) = ap (λ (i : ℕ). drop (at + i) ms) e ∙ sym (drop-drop len at ms) in
-              record {
-                coins = b .coins + 1;
-                stands =
-                    loops.round-next c legal (Left text at to) layer round (b .coins) (b .stands) more (Left _ (at + w) (to + n))
-                    (record {
-                      done = left .done ++ line;
-                      wrote = wrote-more (left .done) before text to (left .wrote) line part n v;
-                      whole =
-                          append-assoc (left .done) line (messagesText c rest (drop (at + w) ms))
-                          ∙ ap₂ (λ (l : List ℕ) (ws : List ℕ). left .done ++ (l ++ messagesText c rest ws)) same behind
-                          ∙ left .whole;
-                      counted = rw e (sum-passed (messageLength c) (place layer round) rest at (length ms) (left .counted));
-                    });
-              }
+    pub round-done : {part : List ℕ} {n : ℕ}
+        → Wrote (lineText (wordOf c (place layer round)) (take (at + len - at) (drop at ms))) (take (length text - to) (drop to text)) part n
+        → BeforeRound (take to text ++ (part ++ drop (length text - to) (drop to text))) (at + len) (to + n) layer (round + 1)
+    unfolding messagesText
+    round-done {part} {n} v =
+        let rest : List Place = before-round c layer (round + 1) in
+        let cut : at + len - at ≡ len = omega arith in
+        let line : List ℕ = lineText (wordOf c (place layer round)) (take (at + len - at) (drop at ms)) in
+        let same : line ≡ lineText (wordOf c (place layer round)) (take len (drop at ms)) =
+        ap (λ (i : ℕ). lineText (wordOf c (place layer round)) (take i (drop at ms))) cut in
+        record {
+          coins = due .here .coins + 1;
+          stands =
+              loops.round-next c (due .legal) (due .here .stands) (due .more)
+              (record {
+                done = left .done ++ line;
+                wrote = wrote-more (left .done) before text to (left .wrote) line part n v;
+                whole =
+                    append-assoc (left .done) line (messagesText c rest (drop (at + len) ms))
+                    ∙ ap₂ (λ (l : List ℕ) (ws : List ℕ). left .done ++ (l ++ messagesText c rest ws)) same (sym (drop-drop len at ms))
+                    ∙ left .whole;
+                counted = sum-passed (messageLength c) (place layer round) rest at (length ms) (left .counted);
+              });
+        }

@@ -1,7 +1,7 @@
 -- A walk in a loop: before each round what is left of it, from the coins and words left, is the whole walk.
 -- Assumes nothing.
 use Prim.Native.Nat.{ℕ, _+_, _≤_, _<_}
-use mathlib.Core.Path.{_≡_, refl, sym, ap, ap₂, _∙_}
+use mathlib.Core.Path.{_≡_, sym, ap, ap₂, _∙_}
 use mathlib.Core.List.{List, [], _∷_, map}
 use native.Mathlib.Omega.{arith}
 use lib.ListN.{length, take, drop, getD}
@@ -15,10 +15,16 @@ use Rattle.refusal.specs.declared.Cause.{Cause}
 use Rattle.refusal.proofs.Order.{refused-first, legal-first}
 use Rattle.walk.specs.Game.{Game, Comparison, finalCause, walk}
 
--- so many coins come before any message
-module _ {R : Type 0} (g : Game R) (final : Comparison) (rounds : List R) (first-coins y : ℕ) (ms cs : List ℕ) where
-  abbrev whole : ℕ
-  whole = walk g final rounds (take first-coins cs) y ms (drop first-coins cs)
+-- one run of a game: its message words, its coins, and what the walk over all of them says
+pub record Run (R : Type 0) : Type 0 where
+  pub game : Game R
+  pub final : Comparison
+  pub messages : List ℕ
+  pub coins : List ℕ
+  pub whole : ℕ
+
+module _ {R : Type 0} (run : Run R) where
+  open Run run using (game as g, final, messages as ms, coins as cs, whole)
 
   -- these rounds are left, after n coins and `at` message words
   pub record Left (rest : List R) (n at claim : ℕ) : Type 0 where
@@ -26,10 +32,7 @@ module _ {R : Type 0} (g : Game R) (final : Comparison) (rounds : List R) (first
     pub words : at + sum (map (g .len) rest) ≡ length ms
     pub same : walk g final rest (take n cs) claim (drop at ms) (drop n cs) ≡ whole
 
-  pub left-all : length cs ≡ first-coins + length rounds → length ms ≡ sum (map (g .len) rounds) → Left rounds first-coins 0 y
-  left-all ec em = record { coins = omega arith; words = omega arith; same = refl }
-
-  module _ (r : R) (rest : List R) (n at claim : ℕ) (h : Left (r ∷ rest) n at claim) where
+  module _ {r : R} {rest : List R} {n at claim : ℕ} (h : Left (r ∷ rest) n at claim) where
     pub left-coin : n < length cs
     left-coin = omega (arith, h .coins)
 
@@ -61,8 +64,8 @@ module _ {R : Type 0} (g : Game R) (final : Comparison) (rounds : List R) (first
     pub left-refused : (cause : Cause) → numberOf cause ≡ g .judge r (take n cs) claim message → numberOf cause ≡ whole
     left-refused cause e = sym (one-round ∙ refused-first cause (g .judge r (take n cs) claim message) later e) ∙ h .same
 
-  pub left-none : (n at claim : ℕ) → Left [] n at claim → finalCause (final cs claim) ≡ whole
+  pub left-none : {n at claim : ℕ} → Left [] n at claim → finalCause (final cs claim) ≡ whole
   unfolding walk
-  left-none n at claim h =
+  left-none {n} {at} {claim} h =
       let all : length cs ≤ n = omega (arith, h .coins) in
       ap (λ (l : List ℕ). finalCause (final l claim)) (sym (take-all n cs all)) ∙ h .same

@@ -23,14 +23,14 @@ module _ {R : Type 0} (rule : Rule R) (rounds : List R) (first-coins : ℕ) (cs 
   pub saying-all : length cs ≡ first-coins + length rounds → Saying rounds first-coins 0
   saying-all e = record { coins = omega arith; inside = omega arith; left = refl }
 
-  pub saying-none : (n at : ℕ) → Saying [] n at → length whole ≡ at
+  pub saying-none : {n at : ℕ} → Saying [] n at → length whole ≡ at
   unfolding said flatten
-  saying-none n at h =
+  saying-none {n} {at} h =
       let none : length (drop at whole) ≡ 0 = ap length (h .left) in
       let inside = h .inside in
       omega (arith, none, length-drop at whole)
 
-  module _ (r : R) (rest : List R) (n at : ℕ) (h : Saying (r ∷ rest) n at) where
+  module _ {r : R} {rest : List R} {n at : ℕ} (h : Saying (r ∷ rest) n at) where
     abbrev message : List ℕ
     message = rule r (take n cs)
 

@@ -135,7 +135,7 @@ loop-again c =
     let prime = prime-modulus (list g) (legal g) _ _ (g .before .before .before .prime .ensures) (g .before .before .of .ensures) in (
       search needs,
       from-layer next
-          (turn-filled _ _ (start g .pre .0) _ _ _ _ (inside t) (filled t) (wide t) _ _ prime (rw (rest t) at (c .before .fill-layer .ensures))),
+          (turn-filled _ _ (start g .pre .0) _ _ _ _ (inside t) (filled t) (wide t) _ (rw (rest t, prime) at (c .before .fill-layer .ensures))),
     )
 
 returns : tie.Need-returns Inv-loop μ-loop

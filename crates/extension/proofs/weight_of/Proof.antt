@@ -26,10 +26,10 @@ loop-again c =
     let args = here .before .before .args in
     let rest = here .loop .rest in
     let z = getD (args .point .now) (here .loop .left - 1) 0 in
-    step _ _ _ 0 factor _ _ rest _ (here .loop .inv) (search needs)
+    rw (c .mul .ensures)
+    (step _ _ _ factor _ rest _ (here .loop .inv) (search needs)
     (⊎-elim (λ w. factor-one (numbers (args .f)) rest factor z (w .0 .taken) (search needs))
-    (λ w. factor-zero (numbers (args .f)) rest factor z (w .0 .left) (search needs)) (c .before .if1 .came))
-    (c .mul .ensures)
+    (λ w. factor-zero (numbers (args .f)) rest factor z (w .0 .left) (search needs)) (c .before .if1 .came)))
 
 returns : tie.Need-returns Inv-loop μ-loop
 returns c = end _ _ _ _ _ _ (c .before .loop .inv) (search needs)

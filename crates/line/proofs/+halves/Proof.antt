@@ -86,8 +86,9 @@ module _ (t : ℕ) where
       let args = entry .args in
       let room = entry .pre .1 .2 in
       let one = c .before .before .before .before .before .before .before .before .before .if2 .taken in
-      from-values (numbers (args .f)) 0 (args .values .now) (args .u .now) (args .v .now) (entry .pre .1 .0) (omega arith) one
-      (args .row .now) _ _ (omega arith) (ap (λ (n : ℕ). n ∷ []) (upper .ensures)) (rw (low .ensures, difference .sub .ensures) at (joined .ensures))
+      (rw (low .ensures, difference .sub .ensures) at (joined .ensures))
+      ∙ from-values (numbers (args .f)) (args .values .now) (args .u .now) (args .v .now) (entry .pre .1 .0) (omega arith) one
+      (args .row .now) _ (omega arith) (ap (λ (n : ℕ). n ∷ []) (upper .ensures))
 
   slice-aggregate-halves : halves-lts.Need-slice-aggregate-halves (claims t) (halves-at t) halves.Post
   slice-aggregate-halves c = sym (length-take-le _ _ (omega arith))
@@ -122,11 +123,11 @@ module _ (t : ℕ) where
       let same = entry .pre .1 .0 in
       let other = difference .before .before .before .if1 .left in
       let some : 0 < length (args .u .now) = omega arith in
-      from-halves (numbers (args .f)) 0 (args .values .now) (args .u .now) (args .v .now) same some
-      (args .row .now) (low .last .1 .1 .1 .1 .0) _ _ (low .ensures)
-      (take-front _ _ (upper .last .1 .1 .1 .1 .0) (length (args .u .now)) (upper .ensures)
-      (length-half (numbers (args .f)) 0 (args .values .now) (args .u .now) (args .v .now) same some _))
       (rw (difference .sub .ensures) at (joined .ensures))
+      ∙ from-halves (numbers (args .f)) (args .values .now) (args .u .now) (args .v .now) same some
+      (args .row .now) (low .last .1 .1 .1 .1 .0) _ (low .ensures)
+      (take-front _ _ (upper .last .1 .1 .1 .1 .0) (length (args .u .now)) (upper .ensures)
+      (length-half (numbers (args .f)) (args .values .now) (args .u .now) (args .v .now) same some _))
 
 pub +halves-spec : {M : Type 1} → statement M
 +halves-spec =

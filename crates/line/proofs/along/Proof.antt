@@ -9,21 +9,24 @@ use Rattle.line.proofs.along.Statement.{statement}
 use Rattle.line.proofs.along.Tie as tie
 
 abbrev Inv-loop : tie.InvT-loop
-Inv-loop f x d row₀ high m carry₀ i₀ row carry i = Carried (numbers f) 0 x d row₀ high row carry i
+Inv-loop f x d row₀ high m carry₀ i₀ row carry i = Carried (numbers f) x d row₀ high row carry i
 
 abbrev μ-loop : tie.MeasureT-loop
 μ-loop f x d row₀ high m carry₀ i₀ row carry i = length high - i
 
 loop-holds : tie.Need-loop-holds Inv-loop μ-loop
-loop-holds c = start _ _ _ _ _ _ (search needs)
+loop-holds c = start _ _ _ _ _ (search needs)
 
 loop-again : tie.Need-loop-again Inv-loop μ-loop
 loop-again c =
     let here = c .before .before .before .before .before .before .before .before in
-    step _ 0 _ _ _ _ _ _ _ (here .loop .inv) _ _ (search needs) (cc) cc
+    let sum = c .before .before in
+    let product = sum .before in
+    rw (c .add2 .ensures, c .before .mul2 .ensures, sum .add .ensures, product .mul .ensures, product .before .sub .ensures)
+    (step _ _ _ _ _ _ _ _ (here .loop .inv) (search needs))
 
 returns : tie.Need-returns Inv-loop μ-loop
-returns c = end _ 0 _ _ _ _ _ _ _ (c .before .before .loop .inv) _ (search needs) cc
+returns c = rw (c .mul3 .ensures) (end _ _ _ _ _ _ _ _ (c .before .before .loop .inv) (search needs))
 
 pub along-spec : {M : Type 1} → statement M
 along-spec =

@@ -3,7 +3,7 @@
 use Prim.Native.Nat.{ℕ, _+_, _≤_}
 use mathlib.Core.Path.{_≡_, sym, ap, _∙_, subst}
 use native.Mathlib.Omega.{arith}
-use lib.ListN.{length}
+use lib.ListN.{length, take}
 use lib.Seq.{length-take-le}
 use Rattle.circuit.proofs.Layers.{prime-modulus}
 use Rattle.line.specs.Row.{maxCoefficients}
@@ -38,8 +38,8 @@ returns c il h =
     let f = prime-modulus l (h .there .legal) _ _ (of .before .prime .ensures) (of .of .ensures) in
     let words = c .before .before .before .before .before .line-message in
     let said =
-    line-words l (start .args .layer) (start .args .round) past vs (start .args .buffer .now) h st t il (words .result) (st .own + 1) n
-    (words .ensures ∙ ap (λ (p : ℕ). lined p vs st) f) in
+    ap (take (st .own + 1)) (words .ensures ∙ ap (λ (p : ℕ). lined p vs st) f)
+    ∙ line-words l (start .args .layer) (start .args .round) past vs (start .args .buffer .now) h st t il (st .own + 1) n in
     let room = subst (λ (i : ℕ). i ≤ length (start .args .buffer .now)) (sym n) (h .room) in
     written (words .result) (start .args .buffer .now) _ _ (st .own + 1) room said (c .before .before .put .ensures)
 

@@ -7,6 +7,7 @@ use native.Mathlib.Omega.{arith}
 use lib.ListN.{length, take, drop}
 use Rattle.lists.specs.Buffer.{over}
 use Rattle.circuit.specs.Limits.{maxDepth, maxWidth}
+use Rattle.circuit.specs.Circuit.{exponentAt, widthOf}
 use Rattle.protocol.specs.Rounds.{place}
 use Rattle.protocol.specs.Prove.{messageFrom}
 use Rattle.messages.specs.Writing.{valuesIn, Writable}
@@ -34,14 +35,17 @@ own w = valuesIn (start w .args .circuit .now) (start w .args .layer) (start w .
 small : (w : tie.After-width) → from w + w .width .result ≤ maxDepth * maxWidth + maxWidth
 small w = part-small _ _ _ _ _ (w .before .before .gates-before .ensures) (w .width .ensures)
 
+wide : (w : tie.After-width) → w .width .result ≡ widthOf (exponentAt (start w .args .circuit .now) (start w .args .layer))
+wide w = w .width .ensures ∙ ap widthOf (w .before .exponent .ensures)
+
 inside : (w : tie.After-width) → Ready w (own w) → from w + w .width .result ≤ length (start w .args .values .now)
-inside w h = part-inside _ _ _ _ _ _ h _ _ _ (w .before .before .gates-before .ensures) (w .before .exponent .ensures) (w .width .ensures)
+inside w h = part-inside _ _ _ _ _ _ h _ _ (w .before .before .gates-before .ensures) (wide w)
 
 whole : (w : tie.After-width) → Ready w (own w) → part w ≡ own w
-whole w h = part-values _ _ _ _ _ _ h _ _ _ (w .before .before .gates-before .ensures) (w .before .exponent .ensures) (w .width .ensures)
+whole w h = part-values _ _ _ _ _ _ h _ _ (w .before .before .gates-before .ensures) (wide w)
 
 ready : (w : tie.After-width) → Ready w (own w) → Ready w (part w)
-ready w h = part-writable _ _ _ _ _ _ h _ _ _ (w .before .before .gates-before .ensures) (w .before .exponent .ensures) (w .width .ensures)
+ready w h = part-writable _ _ _ _ _ _ h _ _ (w .before .before .gates-before .ensures) (wide w)
 
 -- the message from a layer's values, over the buffer
 abbrev message : tie.After-width → List ℕ → List ℕ

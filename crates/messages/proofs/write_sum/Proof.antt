@@ -21,8 +21,8 @@ returns c nl h =
     let t = own .at-round .ensures .stands (h .there) in
     let f = prime-modulus (a .circuit .now) (h .there .legal) _ _ (gates .before .before .prime .ensures) (gates .before .of .ensures) in
     let said =
-    sum-words _ (a .layer) (a .round) (a .past .now) vs (a .buffer .now) h st t nl above (gates .gates-above .ensures) _
-    (sum .sum-message .ensures ∙ ap (λ (p : ℕ). summed p above vs (a .round) st) f) in
+    sum .sum-message .ensures ∙ ap (λ (p : ℕ). summed p above vs (a .round) st) f
+    ∙ sum-words _ (a .layer) (a .round) (a .past .now) vs (a .buffer .now) h st t nl above (gates .gates-above .ensures) in
     sum-written _ (a .layer) (a .round) (a .past .now) vs (a .buffer .now) h (sum .sum-message .result) _ said (c .before .before .put .ensures)
 
 pub write-sum-spec : {M : Type 1} → statement M

@@ -12,8 +12,9 @@ use Rattle.circuit.specs.Legal.{allBelow, listsCause}
 use Rattle.circuit.specs.Sized.{LegalCircuit}
 use Rattle.circuit.proofs.Legal.{below-told}
 use Rattle.circuit.proofs.Loading.{legal-lists, not-true, not-false}
+use Rattle.protocol.specs.Rounds.{place}
 use Rattle.prover.proofs.Values.{writable}
-use Rattle.prover.proofs.Following.{one-lists, one-count, one-word, one-short, one-written}
+use Rattle.prover.proofs.Following.{Due, one-lists, one-count, one-word, one-short, one-written}
 use borrow.Author.Needs.{needs}
 use Rattle.prover.proofs.prove_one.Statement.{statement}
 use Rattle.prover.proofs.prove_one.Tie as tie
@@ -66,13 +67,13 @@ returns-3 c =
 place-after-requires : tie.Need-place-after-requires
 place-after-requires c κs = (legal (told c), few (c .before .before .before))
 
+-- where the round is found: its message is due
+due : (p : tie.After-place-after) → let a = start (told (p .before)) .args in let r = p .place-after .result in
+    Due (a .circuit .now) (a .input .now) (a .prefix .now) (a .buffer .now) (place (r .layer) (r .round))
+due p = record { none = none (told (p .before)); few = few (p .before .before .before .before); residues = residues (p .before); there = p .place-after .ensures }
+
 returns-4 : tie.Need-returns-4
-returns-4 c =
-    let e = c .before .before .before in
-    let found = c .before .before .place-after in
-    let size = c .before .message-length .ensures in
-    one-short _ _ _ _ (none (told e)) (few (e .before .before .before)) (residues e) _ (found .ensures)
-    (omega (arith, size, c .if3 .taken))
+returns-4 c = one-short _ _ _ _ (due (c .before .before)) (omega (arith, c .before .message-length .ensures, c .if3 .taken))
 
 fill-values-requires : tie.Need-fill-values-requires
 fill-values-requires c κs = (none (told (c .before .before .before .before)), length-replicate {A = ℕ} maxValues 0)
@@ -80,14 +81,13 @@ fill-values-requires c κs = (none (told (c .before .before .before .before)), l
 returns-5 : tie.Need-returns-5
 returns-5 c =
     let at = c .before .before .before .before .before .before .before .before in
-    let e = at .before .before .before in
-    let found = at .before .before .place-after in
+    let found = due (at .before .before) in
     let size = at .before .message-length in
     let values = c .before .before .before .before .before .before .fill-values in
-    one-written _ _ _ _ (none (told e)) (few (e .before .before .before)) (residues e) _ (found .ensures)
-    _ _ _ (size .ensures) (at .if3 .left) (values .ensures)
+    rw (size .ensures)
+    (one-written _ _ _ _ found (omega (arith, size .ensures, at .if3 .left)) (values .ensures)
     (c .before .before .write-message .ensures
-    (writable _ _ (none (told e)) _ (values .ensures) _ _ _ _ (found .ensures) (omega (arith, size .ensures, at .if3 .left))))
+    (writable _ _ (found .none) _ (values .ensures) _ _ _ _ (found .there) (omega (arith, size .ensures, at .if3 .left)))))
 
 pub prove-one-spec : {M : Type 1} → statement M
 prove-one-spec =

@@ -1,5 +1,5 @@
 -- `write_all` meets its contract: the messages of the rounds before stand over the buffer's front, and the loops end where none is left. The
--- inner loop starts from the buffer as the outer one left it.
+-- inner loop goes on with whatever buffer the outer one started from.
 -- Assumes nothing.
 use Prim.Native.Nat.{ℕ, _+_, _-_, _*_, _≤_, _<_}
 use mathlib.Core.Path.{_≡_, sym, ap, _∙_, subst}
@@ -18,18 +18,19 @@ use Rattle.protocol.specs.Judge.{messageLength}
 use Rattle.circuit.proofs.Loading.{legal-lists}
 use Rattle.circuit.specs.Limits.{maxValues}
 use Rattle.messages.specs.Writing.{valuesIn, Writable}
-use Rattle.messages.proofs.Rows.{message-size}
+use Rattle.standing.proofs.Loops.{first-layer}
 use Rattle.prover.specs.Writing.{Provable}
 use Rattle.prover.proofs.Values.{layer-values, writable, output-of}
-use Rattle.prover.proofs.Transcripts.{BeforeLayer, BeforeRound, first-layer, all-start, layer-ends, all-end}
-use Rattle.prover.proofs.Transcripts.{lent, lent-size, lent-layer, given-back, coins-there, round-place, same-size, at-inside, lent-room, next-round}
+use Rattle.prover.proofs.Transcripts.{BeforeLayer, BeforeRound, Due, all-start, all-end, layer-size, layer-starts, layer-ends}
+use Rattle.prover.proofs.Transcripts.{coins-there, round-place, enough, at-inside, lent-room, next-round}
 use Rattle.prover.proofs.write_all.Statement.{statement}
 use Rattle.prover.proofs.write_all.Tie as tie
 
 abbrev Inv-loop2 : tie.InvT-loop2
 Inv-loop2 circuit input coins messages₀ values n₀ at₀ layer round₀ layer-end round-end messages n at round =
-    (layer-end ≡ depth circuit + 1) × (round-end ≡ 2 * exponentAt circuit layer + 1) × (at₀ ≤ at)
-    × BeforeRound circuit input coins messages₀ layer round n at messages
+    (layer-end ≡ depth circuit + 1) × (round-end ≡ 2 * exponentAt circuit layer + 1)
+    × ((first : List ℕ) → Provable circuit input coins first → BeforeLayer circuit input coins first layer n₀ at₀ messages₀
+    → BeforeRound circuit input coins first layer round n at messages)
 
 abbrev μ-loop2 : tie.MeasureT-loop2
 μ-loop2 circuit input coins messages₀ values n₀ at₀ layer round₀ layer-end round-end messages n at round =
@@ -59,13 +60,6 @@ values o = o .before .before .before .before .fill-values .last .1 .1 .0
 held : (o : Layer) → AllValues (start o .args .circuit .now) (start o .args .input .now) (values o)
 held o = o .before .before .before .before .fill-values .ensures
 
--- the inner loop starts from the buffer as it is then
-can : (o : Layer) → Provable (start o .args .circuit .now) (start o .args .input .now) (start o .args .coins .now) (o .loop .messages)
-can o = lent _ _ _ _ (start o .pre) _ _ _ _ (o .loop .inv .1)
-
-as-long : (o : Layer) → length (o .loop .messages) ≡ length (start o .args .messages .now)
-as-long o = lent-size _ _ _ _ (start o .pre) _ _ _ _ (o .loop .inv .1)
-
 -- a turn of the inner loop
 abbrev Turn : Type 0
 Turn = tie.In-loop2 Inv-loop2 μ-loop2 Inv-loop μ-loop
@@ -77,36 +71,50 @@ module _ (t : Turn) where
   abbrev l : List ℕ
   l = start (layer t) .args .circuit .now
 
+  abbrev input : List ℕ
+  input = start (layer t) .args .input .now
+
+  abbrev coins : List ℕ
+  coins = start (layer t) .args .coins .now
+
   -- the round, the coins before it, and its layer's values
   abbrev here : Place
   here = place (layer t .loop .layer) (t .before .loop2 .round)
 
   abbrev past : List ℕ
-  past = take (t .before .loop2 .n) (start (layer t) .args .coins .now)
+  past = take (t .before .loop2 .n) coins
 
   abbrev own : List ℕ
   own = valuesIn l (here .layer) (values (layer t))
 
-  more : here .round < 2 * exponentAt l (here .layer) + 1
-  more = subst (λ (i : ℕ). here .round < i) (t .before .loop2 .inv .1) (t .loop2-test .taken)
+  -- whatever buffer the outer loop started from
+  due : (first : List ℕ) → Provable l input coins first
+      → BeforeLayer l input coins first (here .layer) (layer t .loop .n) (layer t .loop .at) (layer t .loop .messages)
+      → Due l input coins first (here .layer) (here .round) (t .before .loop2 .n) (t .before .loop2 .at) (t .before .loop2 .messages)
+  due first h b = record {
+    provable = h;
+    before = t .before .loop2 .inv .2 first h b;
+    more = subst (λ (i : ℕ). here .round < i) (t .before .loop2 .inv .1) (t .loop2-test .taken);
+  }
 
-  coin : t .before .loop2 .n < length (start (layer t) .args .coins .now)
-  coin = coins-there _ _ _ _ (can (layer t)) _ _ _ _ _ (t .before .loop2 .inv .3) more
+  now : let at = t .before .loop2 in Due l input coins (start (layer t) .args .messages .now) (here .layer) (here .round) (at .n) (at .at) (at .messages)
+  now = due _ (start (layer t) .pre) (layer t .loop .inv .1)
+
+  coin : t .before .loop2 .n < length coins
+  coin = coins-there _ _ _ _ now
 
   spot : AtRound l here (length past)
-  spot = round-place _ _ _ _ (can (layer t)) _ _ _ _ _ (t .before .loop2 .inv .3) more
+  spot = round-place _ _ _ _ now
 
   inside : t .before .loop2 .at + messageLength l here ≤ length (t .before .loop2 .messages)
-  inside = at-inside _ _ _ _ (can (layer t)) _ _ _ _ _ (t .before .loop2 .inv .3) more
+  inside = at-inside _ _ _ _ now
 
   -- the part that is lent on
   abbrev part : List ℕ
   part = take (length (t .before .loop2 .messages) - t .before .loop2 .at) (drop (t .before .loop2 .at) (t .before .loop2 .messages))
 
   ready : Writable l (here .layer) (here .round) past own part
-  ready =
-      writable _ _ (start (layer t) .pre .given .lists) _ (held (layer t)) _ _ _ part spot
-      (lent-room _ _ _ _ (can (layer t)) _ _ _ _ _ (t .before .loop2 .inv .3) more)
+  ready = writable _ _ (start (layer t) .pre .given .lists) _ (held (layer t)) _ _ _ part spot (lent-room _ _ _ _ now)
 
 fill-values-requires : tie.Need-fill-values-requires Inv-loop2 μ-loop2 Inv-loop μ-loop
 fill-values-requires c κs = (c .before .before .before .before .before .pre .given .lists, length-replicate {A = ℕ} maxValues 0)
@@ -115,7 +123,7 @@ loop-holds : tie.Need-loop-holds Inv-loop2 μ-loop2 Inv-loop μ-loop
 loop-holds c =
     let begin = c .before .before .before .before .before .before .before .before .before in (
       ap (λ (n : ℕ). n + 1) (c .depth .ensures .0),
-      all-start _ _ _ _ (begin .pre) _ (c .before .coins-before .ensures (first-layer _ _ (begin .args .coins .now) _ (begin .pre))),
+      all-start _ _ _ _ (begin .pre) _ (c .before .coins-before .ensures (first-layer _ (legal-lists _ _ (begin .pre .given .lists) .circuit))),
     )
 
 loop2-holds : tie.Need-loop2-holds Inv-loop2 μ-loop2 Inv-loop μ-loop
@@ -123,15 +131,14 @@ loop2-holds c =
     let o = c .before .before in (
       o .loop .inv .0,
       ap (λ (k : ℕ). 2 * k + 1) (c .exponent .ensures),
-      search needs,
-      lent-layer _ _ _ _ (start o .pre) _ _ _ _ (o .loop .inv .1) (omega (arith, c .before .loop-test .taken, o .loop .inv .0)),
+      λ first h b. layer-starts _ _ _ first h b (omega (arith, c .before .loop-test .taken, o .loop .inv .0)),
     )
 
 slice-aggregate-write-message : tie.Need-slice-aggregate-write-message Inv-loop2 μ-loop2 Inv-loop μ-loop
 slice-aggregate-write-message c = let there = coin (c .before) in sym (length-take-le _ _ (omega arith))
 
 mul-write-message : tie.Need-mul-write-message Inv-loop2 μ-loop2 Inv-loop μ-loop
-mul-write-message c = let fits = inside (c .before .before) in search needs
+mul-write-message c = let fits = enough _ _ _ _ (now (c .before .before)) in search needs
 
 sub-write-message : tie.Need-sub-write-message Inv-loop2 μ-loop2 Inv-loop μ-loop
 sub-write-message c = let fits = inside (c .before .before) in search needs
@@ -145,12 +152,9 @@ part-write-message-end c = let fits = inside (c .before .before) in search needs
 add-at : tie.Need-add-at Inv-loop2 μ-loop2 Inv-loop μ-loop
 add-at c =
     let t = c .before .before .before .before .before .before .before in
-    let room = inside t in
-    let one = same-size _ _ _ _ (can (layer t)) _ _ _ _ _ (t .before .loop2 .inv .3) (more t) in
-    let two = as-long (layer t) in
     let known = layer t .before .before .before .before .before in
     let all : List ℕ = start (layer t) .args .messages .now in
-    let fits : t .before .loop2 .at + c .message-length .result ≤ length all = omega (arith, room, one, two, c .message-length .ensures) in
+    let fits : t .before .loop2 .at + c .message-length .result ≤ length all = omega (arith, enough _ _ _ _ (now t), c .message-length .ensures) in
     search needs
 
 add-n : tie.Need-add-n Inv-loop2 μ-loop2 Inv-loop μ-loop
@@ -165,31 +169,27 @@ loop2-again c =
     let said : List ℕ → List ℕ = λ (vs : List ℕ). messageFrom (l t) vs (here t) (past t) in (
       at .loop2 .inv .0,
       at .loop2 .inv .1,
-      omega (arith, at .loop2 .inv .2),
-      next-round _ _ _ _ (can o) _ _ _ _ _ (at .loop2 .inv .3) (more t) (c .message-length .result) (c .message-length .ensures)
-          (ap (λ (vs : List ℕ). length (said vs)) (sym same) ∙ message-size _ _ _ _ _ (part t) (ready t))
-          _ (c .before .before .before .write-message .ensures (ready t) ∙ ap (λ (vs : List ℕ). over (said vs) (part t)) same),
+      λ first h b. rw (c .message-length .ensures)
+          (next-round _ _ _ first (due t first h b)
+          (c .before .before .before .write-message .ensures (ready t) ∙ ap (λ (vs : List ℕ). over (said vs) (part t)) same)),
     )
 
 add-layer : tie.Need-add-layer Inv-loop2 μ-loop2 Inv-loop μ-loop
 add-layer c =
-    let last = c .before .loop2 .inv .3 .reached .last in
+    let some = c .before .before .before .loop-test .taken in
+    let end = c .before .loop2 .inv .0 in
     let flat = legal (c .before .before .before .before) .sized .headed .shallow in
     omega arith
 
 loop-less : tie.Need-loop-less Inv-loop2 μ-loop2 Inv-loop μ-loop
-loop-less c =
-    let last = c .before .loop2 .inv .3 .reached .last in
-    let end = c .before .loop2 .inv .0 in
-    omega arith
+loop-less c = let some = c .before .before .before .loop-test .taken in search needs
 
 loop-again : tie.Need-loop-again Inv-loop2 μ-loop2 Inv-loop μ-loop
 loop-again c =
     let at = c .before in
     let o = c .before .before .before .before in (
       at .loop2 .inv .0,
-      layer-ends _ _ _ _ (start o .pre) _ _ _ _ _
-          (given-back _ _ _ _ (start o .pre) _ _ _ _ (o .loop .inv .1) _ _ _ _ (at .loop2 .inv .2) (at .loop2 .inv .3))
+      layer-ends _ _ _ _ (start o .pre) (at .loop2 .inv .2 _ (start o .pre) (o .loop .inv .1))
           (subst (λ (i : ℕ). i ≤ at .loop2 .round) (at .loop2 .inv .1) (c .loop2-test .left)),
     )
 
@@ -197,12 +197,12 @@ array-read-t33 : tie.Need-array-read-t33 Inv-loop2 μ-loop2 Inv-loop μ-loop
 array-read-t33 c = let size = held (c .before) .size in search needs
 
 same-length : tie.Need-same-length Inv-loop2 μ-loop2 Inv-loop μ-loop
-same-length c = let size = as-long (c .before) in search needs
+same-length c = let size = layer-size _ _ _ _ (start (c .before) .pre) (c .before .loop .inv .1) in search needs
 
 returns : tie.Need-returns Inv-loop2 μ-loop2 Inv-loop μ-loop
 returns c =
     let o = c .before in
-    let done = all-end _ _ _ _ (start o .pre) _ _ _ _ (o .loop .inv .1) (omega (arith, c .loop-test .left, o .loop .inv .0)) in
+    let done = all-end _ _ _ _ (start o .pre) (o .loop .inv .1) (omega (arith, c .loop-test .left, o .loop .inv .0)) in
     record { output = output-of _ _ (start o .pre .given .lists) _ (held o); words = done .0; buffer = done .1 }
 
 pub write-all-spec : {M : Type 1} → statement M

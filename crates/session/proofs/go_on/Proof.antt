@@ -1,13 +1,15 @@
 -- `go_on` meets its contract: the next round, the next layer, or the last comparison.
 -- Assumes nothing.
 use Prim.Native.Nat.{_<_}
-use mathlib.Core.Path.{_≡_, refl, sym, _∙_}
-use mathlib.Core.Bool.{true}
+use mathlib.Core.Path.{_≡_, sym, ap, _∙_}
+use mathlib.Core.Bool.{Bool, true, false}
 use native.Mathlib.Omega.{arith}
 use Rattle.circuit.specs.Circuit.{depth}
 use Rattle.circuit.proofs.Loading.{not-true, not-false}
 use Rattle.protocol.specs.Rounds.{Place, place, isLine}
-use Rattle.session.proofs.Records.{small-round, small-layer, goes-round, goes-layer, goes-accepted, goes-refused}
+use Rattle.walk.specs.Session.{stepFinal}
+use Rattle.session.specs.Answers.{recordOf}
+use Rattle.session.proofs.Records.{small-round, small-layer, goes-round, goes-layer, goes-ended}
 use borrow.Author.Needs.{needs}
 use Rattle.session.proofs.go_on.Statement.{statement}
 use Rattle.session.proofs.go_on.Tie as tie
@@ -54,16 +56,18 @@ returns-3 c =
     let l = c .before .before .before in
     let e = first l in
     let a = start (e .before) .args in
-    goes-accepted _ _ _ _ (start (e .before) .pre) (a .coin) (a .claim) (line e) (last l) _ (c .before .before .ended .ensures)
-    (sym (c .before .input-agrees .ensures (start (e .before) .pre .given)) ∙ search needs) refl
+    let said : c .before .input-agrees .result ≡ true = search needs in
+    goes-ended _ _ _ _ (start (e .before) .pre) (a .coin) (a .claim) (line e) (last l) _ (c .before .before .ended .ensures)
+    (ap (λ (b : Bool). stepFinal b (recordOf (a .session)) .0) (sym said ∙ c .before .input-agrees .ensures (start (e .before) .pre .given)))
 
 returns-4 : tie.Need-returns-4
 returns-4 c =
     let l = c .before .before .before in
     let e = first l in
     let a = start (e .before) .args in
-    goes-refused _ _ _ _ (start (e .before) .pre) (a .coin) (a .claim) (line e) (last l) _ (c .before .before .ended .ensures)
-    (sym (c .before .input-agrees .ensures (start (e .before) .pre .given)) ∙ search needs) refl
+    let said : c .before .input-agrees .result ≡ false = search needs in
+    goes-ended _ _ _ _ (start (e .before) .pre) (a .coin) (a .claim) (line e) (last l) _ (c .before .before .ended .ensures)
+    (ap (λ (b : Bool). stepFinal b (recordOf (a .session)) .0) (sym said ∙ c .before .input-agrees .ensures (start (e .before) .pre .given)))
 
 pub go-on-spec : {M : Type 1} → statement M
 go-on-spec =

@@ -82,7 +82,7 @@ returns-2 c =
     let f = prime-modulus _ (legal _ _ _ _ (start n .pre)) _ _ (value .before .before .prime .ensures) (value .before .of .ensures) in
     let y = value .value-at .ensures ∙ ap (λ (p : ℕ). valueAt (words p) m (getD (cs n) (number n) 0)) f in
     let passed = none-told (told .enum-told .given .1) (judged .judge .ensures (spot n)) in
-    passed-open _ _ _ _ (start n .pre) (number n) (number-is n) m passed _ y _ (c .go-on .ensures)
+    passed-open _ _ _ _ (start n .pre) (number n) (number-is n) m passed _ (rw y at (c .go-on .ensures))
 
 pub step-open-spec : {M : Type 1} → statement M
 step-open-spec =

@@ -27,7 +27,7 @@ loop-holds c =
 loop-again : tie.Need-loop-again Inv-loop μ-loop
 loop-again c =
     let here = c .before .before .before .before .before .before in
-    step _ rowLength _ _ _ 0 _ _ _ _ (here .loop .inv) (search needs) cc
+    rw (c .add .ensures, c .before .scaled .ensures, c .before .before .sub .ensures) (step _ rowLength _ _ _ _ _ _ (here .loop .inv) (search needs))
 
 returns : tie.Need-returns Inv-loop μ-loop
 returns c = end _ rowLength _ _ _ _ _ (c .before .loop .i) (c .before .loop .inv) (search needs)

@@ -15,20 +15,21 @@ abbrev μ-loop : tie.MeasureT-loop
 μ-loop f gates point u v sums₀ a₀ sums a = a
 
 loop-holds : tie.Need-loop-holds Inv-loop μ-loop
-loop-holds c = start _ _ _ _ _
+loop-holds c = start _ _ _ _ _ (omega arith)
 
 loop-again : tie.Need-loop-again Inv-loop μ-loop
 loop-again c =
     let weighed = c .before in
     let chosen = weighed .before .before .before in
     let placed = chosen .before in
-    one-counts _ _ _ _ _ (omega arith) _ _ (placed .before .before .before .loop .inv) (search needs) _ _ _ (placed .place .ensures) (chosen .if1 .taken)
-    (weighed .gate-weight .ensures) (c .add .ensures)
+    rw (c .add .ensures)
+    (one-counts _ _ _ _ _ (placed .before .before .before .loop .inv) (search needs)
+    (record { placed-at = placed .place .ensures; inside = chosen .if1 .taken; weighed = weighed .gate-weight .ensures }))
 
 loop-again-2 : tie.Need-loop-again-2 Inv-loop μ-loop
 loop-again-2 c =
     let placed = c .before in
-    none-counts _ _ _ _ _ (omega arith) _ _ (placed .before .before .before .loop .inv) (search needs) (rw (placed .place .ensures) at (c .if1 .left))
+    none-counts _ _ _ _ _ (placed .before .before .before .loop .inv) (search needs) (rw (placed .place .ensures) at (c .if1 .left))
 
 returns : tie.Need-returns Inv-loop μ-loop
 returns c = end _ _ _ _ _ _ _ (c .before .loop .inv) (search needs)

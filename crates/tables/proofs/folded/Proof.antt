@@ -4,7 +4,7 @@ use borrow.Author.Needs.{needs}
 use Prim.Native.Nat.{_-_}
 use native.Mathlib.Omega.{arith}
 use mathlib.Core.Path.{_≡_, refl, sym, _∙_}
-use lib.ListN.{length, take, getD}
+use lib.ListN.{length, take}
 use lib.Seq.{length-take-le, getD-take}
 use Rattle.lists.proofs.Front.{front-of, front-put, front-take}
 use Rattle.lists.proofs.Parts.{length-most}
@@ -49,8 +49,8 @@ loop-again c =
     let k = start .args .k in
     let least = at .before .least2 .ensures in
     let count = length-most k rowLength _ row (search needs) least in
-    fix-next _ _ _ (at .loop .table) (c .before .before .fold .last .1 .0) (at .loop .n) i 0 (getD row i 0) (at .loop .inv) (search needs)
-    (sym (getD-take k row i 0 (search needs))) (c .before .before .fold .ensures)
+    fix-next _ _ _ (at .loop .table) (c .before .before .fold .last .1 .0) (at .loop .n) i (at .loop .inv) (search needs)
+    (rw (sym (getD-take k row i 0 (search needs))) at (c .before .before .fold .ensures))
 
 same-length : tie.Need-same-length Inv-loop μ-loop
 same-length c = c .before .loop .inv .size ∙ sym (c .before .before .before .before .before .before .before .before .if1 .left)

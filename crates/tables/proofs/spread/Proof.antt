@@ -34,7 +34,7 @@ loop-again c =
     let args = made .before .before .args in
     let p : ℕ = modulus (args .f) in
     let taken = c .before .times .ensures ∙ by-residue p (args .z) _ _ (made .multiplier .ensures) in (
-      step _ _ _ _ (at .loop .b) 0 _ _ (at .loop .inv .0) (search needs) taken
+      step _ _ _ _ (at .loop .b) _ _ (at .loop .inv .0) (search needs) taken
           (c .sub .ensures ∙ ap (numbers (args .f) .sub _) taken ∙ by-rest p (omega arith) (args .z) _),
       simp length-set (at .loop .inv .1),
     )

@@ -59,7 +59,7 @@ loop-again c =
     let row = start .args .t2 in
     let k = start .args .k in
     let left = at .loop .left in
-    weigh-next _ _ (at .loop .table) (c .before .before .spread .last .1 .0) (at .loop .n) left 0 (getD row (left - 1) 0) (at .loop .inv) (search needs)
+    weigh-next _ _ (at .loop .table) (c .before .before .spread .last .1 .0) (at .loop .n) left (getD row (left - 1) 0) (at .loop .inv) (search needs)
     (sym (getD-take k row (left - 1) 0 (omega (arith, length-take k row, at .loop .inv .reached)))) (c .before .before .spread .ensures)
 
 same-length : tie.Need-same-length Inv-loop μ-loop

@@ -62,7 +62,7 @@ fits : (m : tie.After-message-length Inv-loop2 μ-loop2 Inv-loop μ-loop)
     → m .before .before .loop2 .at + m .message-length .result ≤ length (start (layer (m .before .before)) .args .messages .now)
 fits m =
     let r = m .before .before in
-    omega (arith, words-there _ _ _ (start (layer r) .pre .0) _ _ _ _ _ (here r) (more (m .before)), m .message-length .ensures)
+    omega (arith, words-there _ _ _ (record { legal = start (layer r) .pre .0; here = here r; more = more (m .before) }), m .message-length .ensures)
 
 loop-holds : tie.Need-loop-holds Inv-loop2 μ-loop2 Inv-loop μ-loop
 loop-holds c =
@@ -73,7 +73,7 @@ loop2-holds : tie.Need-loop2-holds Inv-loop2 μ-loop2 Inv-loop μ-loop
 loop2-holds c =
     let o = c .before .before in (
       ap (λ (k : ℕ). 2 * k + 1) (c .exponent .ensures),
-      λ before b. layer-starts _ _ before (start o .pre .0) _ _ _ _ b (omega (arith, o .loop .inv .0, c .before .loop-test .taken)),
+      λ before b. layer-starts _ _ before (start o .pre .0) b (omega (arith, o .loop .inv .0, c .before .loop-test .taken)),
     )
 
 add-end : tie.Need-add-end Inv-loop2 μ-loop2 Inv-loop μ-loop
@@ -106,15 +106,16 @@ loop2-again c =
     let r = t .before in
     let wide = c .before .before .before .before .before .message-length in (
       r .loop2 .inv .0,
-      λ before b. round-done _ _ before (start (layer r) .pre .0) _ _ _ _ _ (r .loop2 .inv .1 before b) (more t)
-          (wide .result) (wide .ensures) _ _ (c .before .before .write-message .ensures),
+      λ before b. rw (wide .ensures)
+          (round-done _ _ before (record { legal = start (layer r) .pre .0; here = r .loop2 .inv .1 before b; more = more t })
+          (rw (wide .ensures) at (c .before .before .write-message .ensures))),
     )
 
 loop-again : tie.Need-loop-again Inv-loop2 μ-loop2 Inv-loop μ-loop
 loop-again c =
     let r = c .before in (
       layer r .loop .inv .0,
-      layer-ends _ _ _ (start (layer r) .pre .0) _ _ _ _ _ (here r)
+      layer-ends _ _ _ (start (layer r) .pre .0) (here r)
           (subst (λ (i : ℕ). i ≤ r .loop2 .round) (r .loop2 .inv .0) (c .loop2-test .left)),
     )
 
@@ -124,7 +125,7 @@ same-length c = wrote-length _ _ _ _ (c .before .loop .inv .1 .stands .left .wro
 returns : tie.Need-returns Inv-loop2 μ-loop2 Inv-loop μ-loop
 returns c =
     let o = c .before in
-    lines-end _ _ _ (start o .pre .0) _ _ _ _ (o .loop .inv .1) (omega (arith, o .loop .inv .0, c .loop-test .left))
+    lines-end _ _ _ (start o .pre .0) (o .loop .inv .1) (omega (arith, o .loop .inv .0, c .loop-test .left))
 
 pub write-messages-spec : {M : Type 1} → statement M
 write-messages-spec =

@@ -18,21 +18,26 @@ use Rattle.protocol.specs.Rounds.{Place, place, AtRound}
 use Rattle.protocol.specs.Judge.{messageLength}
 use Rattle.circuit.proofs.Layers.{prime-modulus}
 use Rattle.circuit.proofs.Loading.{legal-lists}
-use Rattle.verifier.proofs.Walking.{BeforeLayer, BeforeRound, first-layer, walk-starts, layer-starts, layer-ends, walk-ends}
+use Rattle.standing.proofs.Loops.{first-layer, layer-starts, layer-ends}
+use Rattle.verifier.proofs.Walking.{Claimed, BeforeLayer, BeforeRound, Due, walk-starts, walk-ends}
 use Rattle.verifier.proofs.Walking.{coin-there, words-there, round-place, round-passes, round-refuses}
 use Rattle.verifier.proofs.walk.Statement.{statement}
 use Rattle.verifier.proofs.walk.Tie as tie
 
+abbrev claimed : List ℕ → List ℕ → ℕ → List ℕ → List ℕ → Claimed
+claimed c input first ms cs = record { circuit = c; input = input; first = first; messages = ms; coins = cs }
+
 abbrev Inv-loop : tie.InvT-loop
 Inv-loop circuit input first coins messages f depth claim₀ layer n₀ at₀ round₀ round-end claim n at round =
-    (round-end ≡ 2 * exponentAt circuit layer + 1) × BeforeRound circuit input first messages coins layer round n at claim
+    (round-end ≡ 2 * exponentAt circuit layer + 1) × BeforeRound (claimed circuit input first messages coins) layer round n at claim
 
 abbrev μ-loop : tie.MeasureT-loop
 μ-loop circuit input first coins messages f depth claim₀ layer n₀ at₀ round₀ round-end claim n at round =
     round-end - round
 
 abbrev Inv-walk : tie.InvT-walk
-Inv-walk circuit input first coins messages f depth claim₀ layer₀ n₀ at₀ claim layer n at = BeforeLayer circuit input first messages coins layer n at claim
+Inv-walk circuit input first coins messages f depth claim₀ layer₀ n₀ at₀ claim layer n at =
+    BeforeLayer (claimed circuit input first messages coins) layer n at claim
 
 abbrev μ-walk : tie.MeasureT-walk
 μ-walk circuit input first coins messages f depth claim₀ layer₀ n₀ at₀ claim layer n at = 1 + depthOf circuit - layer
@@ -62,29 +67,27 @@ abbrev layer : Turn → Layer
 layer t = t .before .before .before .before
 
 module _ (t : Turn) where
-  abbrev l : List ℕ
-  l = start (layer t) .args .circuit .now
-
-  abbrev cs : List ℕ
-  cs = start (layer t) .args .coins .now
-
-  abbrev round : ℕ
-  round = t .before .loop .round
+  abbrev k : Claimed
+  k = let s = start (layer t) .args in claimed (s .circuit .now) (s .input .now) (s .first) (s .messages .now) (s .coins .now)
 
   abbrev here : Place
-  here = place (layer t .walk .layer) round
+  here = place (layer t .walk .layer) (t .before .loop .round)
 
-  more : round < 2 * exponentAt l (layer t .walk .layer) + 1
-  more = subst (λ (i : ℕ). round < i) (t .before .loop .inv .0) (t .loop-test .taken)
+  due : Due k (here .layer) (here .round) (t .before .loop .n) (t .before .loop .at) (t .before .loop .claim)
+  due = record {
+    walkable = start (layer t) .pre;
+    before = t .before .loop .inv .1;
+    more = subst (λ (i : ℕ). here .round < i) (t .before .loop .inv .0) (t .loop-test .taken);
+  }
 
-  coin : t .before .loop .n < length cs
-  coin = coin-there _ _ _ _ _ (start (layer t) .pre) _ _ _ _ _ (t .before .loop .inv .1) more
+  coin : t .before .loop .n < length (k .coins)
+  coin = coin-there k due
 
-  spot : AtRound l here (length (take (t .before .loop .n) cs))
-  spot = round-place _ _ _ _ _ (start (layer t) .pre) _ _ _ _ _ (t .before .loop .inv .1) more
+  spot : AtRound (k .circuit) here (length (take (t .before .loop .n) (k .coins)))
+  spot = round-place k due
 
-  words : t .before .loop .at + messageLength l here ≤ length (start (layer t) .args .messages .now)
-  words = words-there _ _ _ _ _ (start (layer t) .pre) _ _ _ _ _ (t .before .loop .inv .1) more
+  words : t .before .loop .at + messageLength (k .circuit) here ≤ length (k .messages)
+  words = words-there k due
 
 -- where a message is measured: it is there
 room : (w : Measured) → w .before .before .loop .at + w .message-length .result ≤ length (start (layer (w .before)) .args .messages .now)
@@ -93,7 +96,7 @@ room w = let all = words (w .before) in omega (arith, w .message-length .ensures
 walk-holds : tie.Need-walk-holds Inv-loop μ-loop Inv-walk μ-walk
 walk-holds c =
     let s = c .before .before .before .before .before .before .before .before in
-    walk-starts _ _ _ _ _ (s .pre) _ (c .coins-before .ensures (first-layer _ _ (s .args .first) _ _ (s .pre)))
+    walk-starts _ (s .pre) _ (c .coins-before .ensures (first-layer _ (legal s)))
 
 finish-requires : tie.Need-finish-requires Inv-loop μ-loop Inv-walk μ-walk
 finish-requires c κs = start (c .before) .pre .given
@@ -102,7 +105,7 @@ loop-holds : tie.Need-loop-holds Inv-loop μ-loop Inv-walk μ-walk
 loop-holds c =
     let o = c .before .before in
     let low : o .walk .layer ≤ depthOf (start o .args .circuit .now) = omega (arith, c .before .if1 .left, o .before .before .depth .ensures .0) in
-    (ap (λ (k : ℕ). 2 * k + 1) (c .exponent .ensures), layer-starts _ _ _ _ _ (start o .pre) _ _ _ _ (o .walk .inv) low)
+    (ap (λ (k : ℕ). 2 * k + 1) (c .exponent .ensures), layer-starts _ (legal (start o)) (o .walk .inv) low)
 
 add-end : tie.Need-add-end Inv-loop μ-loop Inv-walk μ-walk
 add-end c =
@@ -155,7 +158,7 @@ loop-again c =
     let f = prime-modulus _ (legal (start o)) _ _ (o .before .before .before .before .prime .ensures) (o .before .before .before .of .ensures) in
     let passed = none-told (c .before .before .enum-told .given .1) (c .before .before .before .before .judge .ensures (spot t)) in (
       t .before .loop .inv .0,
-      round-passes _ _ _ _ _ (start o .pre) _ _ _ _ _ (t .before .loop .inv .1) (more t) (wide .result) (wide .ensures) (c .value-at .result) passed
+      round-passes _ (due t) (wide .result) (wide .ensures) (c .value-at .result) passed
           (c .value-at .ensures ∙ ap (λ (p : ℕ). valueAt (words-of p) m (getD (start o .args .coins .now) (t .before .loop .n) 0)) f),
     )
 
@@ -171,22 +174,21 @@ walk-less c = let last = c .before .loop .inv .1 .last in search needs
 walk-again : tie.Need-walk-again Inv-loop μ-loop Inv-walk μ-walk
 walk-again c =
     let at = c .before in
-    layer-ends _ _ _ _ _ (start (c .before .before .before .before) .pre) _ _ _ _ _ (at .loop .inv .1)
+    layer-ends _ (legal (start (c .before .before .before .before))) (at .loop .inv .1)
     (subst (λ (i : ℕ). i ≤ at .loop .round) (at .loop .inv .0) (c .loop-test .left))
 
 returns : tie.Need-returns Inv-loop μ-loop Inv-walk μ-walk
 returns c =
     let o = c .before .before in
     c .finish .ensures
-    ∙ walk-ends _ _ _ _ _ (start o .pre) _ _ _ _ (o .walk .inv) (omega (arith, c .before .if1 .taken, o .before .before .depth .ensures .0))
+    ∙ walk-ends _ (start o .pre) (o .walk .inv) (omega (arith, c .before .if1 .taken, o .before .before .depth .ensures .0))
 
 returns-2 : tie.Need-returns-2 Inv-loop μ-loop Inv-walk μ-walk
 returns-2 c =
     let t = c .before .before .before .before .before .before .before in
     let wide = c .before .before .before .before .before .before .message-length in
     let told = c .before .judged .given in
-    round-refuses _ _ _ _ _ (start (layer t) .pre) _ _ _ _ _ (t .before .loop .inv .1) (more t) (wide .result) (wide .ensures) (told .0 .0)
-    (refusal-told (told .1) (c .before .before .before .judge .ensures (spot t)))
+    round-refuses _ (due t) (wide .result) (wide .ensures) (told .0 .0) (refusal-told (told .1) (c .before .before .before .judge .ensures (spot t)))
 
 pub walk-spec : {M : Type 1} → statement M
 walk-spec =
