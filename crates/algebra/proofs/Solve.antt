@@ -93,7 +93,8 @@ cmpM-eq [] (j ∷ n) t = absurd t
 cmpM-eq (i ∷ m) [] t = absurd t
 cmpM-eq (i ∷ m) (j ∷ n) t = go (cmpM-eq m n) (compare i j) refl t
   where
-    go : (T (isEq (cmpM m n)) → m ≡ n) → (o : Ordering) → compare i j ≡ o → T (isEq (elim o [ Ordering·lt ↦ Ordering·lt | Ordering·eq ↦ cmpM m n | Ordering·gt ↦ Ordering·gt ])) → i ∷ m ≡ j ∷ n
+    go : (T (isEq (cmpM m n)) → m ≡ n) → (o : Ordering) → compare i j ≡ o
+        → T (isEq (elim o [ Ordering·lt ↦ Ordering·lt | Ordering·eq ↦ cmpM m n | Ordering·gt ↦ Ordering·gt ])) → i ∷ m ≡ j ∷ n
     go h Ordering·lt e t = absurd t
     go h Ordering·eq e t = cons-path (is-eq i j Ordering·eq e tt) (h t)
     go h Ordering·gt e t = absurd t

@@ -94,7 +94,8 @@ module _ {C : Type 0} {N : Numbers C} (R : Ring N) where
       ∙ zero-add R (f (𝟙 ∷ corner N bs))
   cube-picks (false ∷ bs) (suc n) l f =
       ap₂ _⊕_
-      (cube-same N n (λ us. (𝟙 ⊖ 𝟘) ⊗ weightOfBits N bs us ⊗ f (𝟘 ∷ us)) (λ us. weightOfBits N bs us ⊗ f (𝟘 ∷ us)) (λ us e. not-at-zero (weightOfBits N bs us) (f (𝟘 ∷ us)))
+      (cube-same N n (λ us. (𝟙 ⊖ 𝟘) ⊗ weightOfBits N bs us ⊗ f (𝟘 ∷ us)) (λ us. weightOfBits N bs us ⊗ f (𝟘 ∷ us))
+      (λ us e. not-at-zero (weightOfBits N bs us) (f (𝟘 ∷ us)))
       ∙ cube-picks bs n (suc-inj l) (λ us. f (𝟘 ∷ us)))
       (cube-same N n (λ us. (𝟙 ⊖ 𝟙) ⊗ weightOfBits N bs us ⊗ f (𝟙 ∷ us)) (λ us. 𝟘) (λ us e. not-at-one (weightOfBits N bs us) (f (𝟙 ∷ us))) ∙ cube-zero n)
       ∙ R .add-zero (f (𝟘 ∷ corner N bs))
