@@ -68,7 +68,7 @@ fn all_values(circuit: &[u32], input: &[u32], place: usize) -> [u32; MAX_VALUES]
 }
 
 // What an evaluation answers.
-#[derive(Drop)]
+#[derive(Clone, Copy)]
 pub enum Evaluated {
     Output(u32),
     Refused(Cause),

@@ -5,13 +5,13 @@ ghost use Rattle.primes.specs.Prime.{is_listed};
 ghost use Rattle.field.specs.Modulus.{modulus, numbers};
 
 // The modulus, by its largest residue: no value of this type has a zero modulus, and 2^32 fits.
-#[derive(Drop)]
+#[derive(Clone, Copy)]
 pub struct Field {
     pub largest: u32,
 }
 
 // A number to multiply by often: the multiplier, and its share of 2^32 that stands in for a division.
-#[derive(Drop)]
+#[derive(Clone, Copy)]
 pub struct Multiplier {
     pub by: u32,
     pub share: u32,

@@ -18,32 +18,32 @@ plain_evaluation (evaluate.output y) = record { refusal = 0; output = y }
 plain_evaluation (evaluate.refused cause) = record { refusal = cause; output = 0 }
 
 pub record ExportsEvaluate (c input before : List ℕ) (r : Evaluation) (after : List ℕ) : Type 0 where
-  pub answer : r ≡ plain_evaluation (evaluate.evaluateAnswer c input before)
-  pub buffer : after ≡ evaluate.evaluateBuffer c input before
+  pub answer : r ≡ plain_evaluation (evaluate.evaluate_answer c input before)
+  pub buffer : after ≡ evaluate.evaluate_buffer c input before
 
 abbrev pub plain_counts : read.Answer → Counts
 plain_counts (read.counts a b c d) = record { refusal = 0; first = a; second = b; third = c; fourth = d }
 plain_counts (read.refused cause) = record { refusal = cause; first = 0; second = 0; third = 0; fourth = 0 }
 
 pub record ExportsRead (number : ℕ) (bytes before : List ℕ) (r : Counts) (after : List ℕ) : Type 0 where
-  pub answer : r ≡ plain_counts (read.readAnswer number bytes before)
-  pub buffer : after ≡ read.readBuffer number bytes before
+  pub answer : r ≡ plain_counts (read.read_answer number bytes before)
+  pub buffer : after ≡ read.read_buffer number bytes before
 
 abbrev pub plain_proof : prove.Proof → Proof
 plain_proof (prove.proved y n) = record { refusal = 0; output = y; words = n }
 plain_proof (prove.Proof.refused cause) = record { refusal = cause; output = 0; words = 0 }
 
 pub record ExportsProve (c input cs before : List ℕ) (r : Proof) (after : List ℕ) : Type 0 where
-  pub answer : r ≡ plain_proof (prove.proveAnswer c input cs before)
-  pub buffer : after ≡ prove.proveBuffer c input cs before
+  pub answer : r ≡ plain_proof (prove.prove_answer c input cs before)
+  pub buffer : after ≡ prove.prove_buffer c input cs before
 
 abbrev pub plain_written : prove.OneMessage → Written
 plain_written (prove.wrote n) = record { refusal = 0; words = n }
 plain_written (prove.OneMessage.refused cause) = record { refusal = cause; words = 0 }
 
 pub record ExportsProveOne (c input prefix before : List ℕ) (r : Written) (after : List ℕ) : Type 0 where
-  pub answer : r ≡ plain_written (prove.proveOneAnswer c input prefix before)
-  pub buffer : after ≡ prove.proveOneBuffer c input prefix before
+  pub answer : r ≡ plain_written (prove.prove_one_answer c input prefix before)
+  pub buffer : after ≡ prove.prove_one_buffer c input prefix before
 
 pub record ExportsOpen (c input : List ℕ) (y : ℕ) (cs before : List ℕ) (r : ℕ) (after : List ℕ) : Type 0 where
   pub answer : r ≡ open_cause c input y cs

@@ -21,7 +21,7 @@ const OPEN: u32 = 1;
 
 // What Evaluate answers.
 #[repr(C)]
-#[derive(Drop)]
+#[derive(Clone, Copy)]
 pub struct Evaluation {
     pub refusal: u32,
     pub output: u32,
@@ -29,7 +29,7 @@ pub struct Evaluation {
 
 // What Read answers: a count for each of four arrays.
 #[repr(C)]
-#[derive(Drop)]
+#[derive(Clone, Copy)]
 pub struct Counts {
     pub refusal: u32,
     pub first: u32,
@@ -40,7 +40,7 @@ pub struct Counts {
 
 // What Prove answers for a whole proof.
 #[repr(C)]
-#[derive(Drop)]
+#[derive(Clone, Copy)]
 pub struct Proof {
     pub refusal: u32,
     pub output: u32,
@@ -49,7 +49,7 @@ pub struct Proof {
 
 // What Prove answers for one message.
 #[repr(C)]
-#[derive(Drop)]
+#[derive(Clone, Copy)]
 pub struct Written {
     pub refusal: u32,
     pub words: usize,
@@ -57,7 +57,7 @@ pub struct Written {
 
 // What Step answers: a refusal, an acceptance, or the coin with which the session goes on.
 #[repr(C)]
-#[derive(Drop)]
+#[derive(Clone, Copy)]
 pub struct Step {
     pub refusal: u32,
     pub accepted: u32,

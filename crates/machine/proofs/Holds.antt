@@ -75,10 +75,10 @@ module _ (accepts defined : Acceptance) (same : Agrees accepts defined) where
       (counts c input job y f.word rule any.words) (h c input job.legal y f.differs rule any.fits)
 
 module _ {S : Type 0} (M : Machine S) (Store : S → Type 0) (read : S → Record Place) (sim : Simulates M Store read) where
-  abbrev whole_agrees : Agrees (whole_accepts M) accept.wholeAccepts
+  abbrev whole_agrees : Agrees (whole_accepts M) accept.whole_accepts
   whole_agrees c input y wy rule wr cs w = whole_is M Store read sim c input y wy rule wr cs w
 
-  abbrev session_agrees : Agrees (session_accepts M) accept.sessionAccepts
+  abbrev session_agrees : Agrees (session_accepts M) accept.session_accepts
   session_agrees c input y wy rule wr cs w = session_is M Store read sim c input y wy rule wr cs w
 
   same_acceptance : SameAcceptance (session_accepts M) (whole_accepts M)
@@ -118,7 +118,7 @@ module _ {S : Type 0} (M : Machine S) (Store : S → Type 0) (read : S → Recor
       ∙ ap (λ (a : Proof). taken M c input cs (a, after)) (true_answer c input cs buffer none)
       ∙ ap₂ (λ (b : Bool) (ms : List ℕ). b && is_accepted (M.check c input (value c input) cs ms))
       (eq-eqb (value c input) (value c input) refl) (written c input cs buffer none)
-      ∙ complete_by (whole_accepts M) accept.wholeAccepts whole_agrees theorems.demand_3.whole_complete c input job cs v
+      ∙ complete_by (whole_accepts M) accept.whole_accepts whole_agrees theorems.demand_3.whole_complete c input job cs v
 
   asked_accepted : AskedAccepted M
   asked_accepted c input job buffer wb room cs v =
@@ -129,16 +129,16 @@ module _ {S : Type 0} (M : Machine S) (Store : S → Type 0) (read : S → Recor
       (all_take Word (output_exponent c) cs ws) (all_drop Word (output_exponent c) cs ws)
       ∙ asked_same c input job.legal buffer room cs v in
       ap (λ (ms : List (List ℕ)). any_accepted (answers M c input (value c input) cs ms)) same
-      ∙ complete_by (session_accepts M) accept.sessionAccepts session_agrees theorems.demand_3.session_complete c input job cs v
+      ∙ complete_by (session_accepts M) accept.session_accepts session_agrees theorems.demand_3.session_complete c input job cs v
 
   pub holds : Demand3 M
   holds = record {
-    whole_complete = complete_by (whole_accepts M) accept.wholeAccepts whole_agrees theorems.demand_3.whole_complete;
-    whole_sound = sound_by (whole_accepts M) accept.wholeAccepts whole_agrees theorems.demand_3.whole_sound;
-    whole_sharp = sharp_by (whole_accepts M) accept.wholeAccepts whole_agrees theorems.whole_sharp;
-    session_complete = complete_by (session_accepts M) accept.sessionAccepts session_agrees theorems.demand_3.session_complete;
-    session_sound = sound_by (session_accepts M) accept.sessionAccepts session_agrees theorems.demand_3.session_sound;
-    session_sharp = sharp_by (session_accepts M) accept.sessionAccepts session_agrees theorems.session_sharp;
+    whole_complete = complete_by (whole_accepts M) accept.whole_accepts whole_agrees theorems.demand_3.whole_complete;
+    whole_sound = sound_by (whole_accepts M) accept.whole_accepts whole_agrees theorems.demand_3.whole_sound;
+    whole_sharp = sharp_by (whole_accepts M) accept.whole_accepts whole_agrees theorems.whole_sharp;
+    session_complete = complete_by (session_accepts M) accept.session_accepts session_agrees theorems.demand_3.session_complete;
+    session_sound = sound_by (session_accepts M) accept.session_accepts session_agrees theorems.demand_3.session_sound;
+    session_sharp = sharp_by (session_accepts M) accept.session_accepts session_agrees theorems.session_sharp;
     same_acceptance = same_acceptance;
     same_end = same_end;
     no_early_coin = no_early_coin;

@@ -95,13 +95,13 @@ module _ {S : Type 0} (M : Machine S) (Store : S → Type 0) (read : S → Recor
     messages_words : All Words (messages_on c rule cs)
     messages_words = said_all Words rule wr (rounds c) (first_point c cs) (later_coins c cs)
 
-    pub whole_is : whole_accepts M c input y rule cs ≡ accept.wholeAccepts c input y rule cs
+    pub whole_is : whole_accepts M c input y rule cs ≡ accept.whole_accepts c input y rule cs
     unfolding transcript
     whole_is =
         ap is_accepted (sim.check c input y cs (transcript c rule cs) w wy (all_flatten Word (messages_on c rule cs) messages_words))
         ∙ accepted_passes (check_answer c input y cs (transcript c rule cs))
 
-    pub session_is : session_accepts M c input y rule cs ≡ accept.sessionAccepts c input y rule cs
+    pub session_is : session_accepts M c input y rule cs ≡ accept.session_accepts c input y rule cs
     session_is = ap any_accepted (answers_are c input y cs w wy (messages_on c rule cs) messages_words)
 
   -- PROVE, ASKED FOR ONE MESSAGE AFTER ANOTHER

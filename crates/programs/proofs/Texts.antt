@@ -46,9 +46,9 @@ module _ (program : Program) (bytes : List ℕ) (number : ℕ) (called-for : num
 -- THE LENGTH
 lists_short : (program : Program) (ls : List (List ℕ)) → length (text_of program ls) ≤ longest program
 unfolding text_of
-lists_short Transcript ls = transcript.lists-short (get_or ls 0 []) (get_or ls 1 []) (get_or ls 2 [])
-lists_short Verdict ls = verdict.lists-short (get_or ls 0 []) (get_or ls 1 []) (get_or ls 2 []) (get_or ls 3 [])
-lists_short Evaluate ls = output.lists-short (get_or ls 0 []) (get_or ls 1 [])
+lists_short Transcript ls = transcript.lists_short (get_or ls 0 []) (get_or ls 1 []) (get_or ls 2 [])
+lists_short Verdict ls = verdict.lists_short (get_or ls 0 []) (get_or ls 1 []) (get_or ls 2 []) (get_or ls 3 [])
+lists_short Evaluate ls = output.lists_short (get_or ls 0 []) (get_or ls 1 [])
 
 line_fits : (program : Program) → max_line ≤ longest program
 line_fits Transcript = omega arith

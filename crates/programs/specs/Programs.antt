@@ -19,9 +19,9 @@ arrays_of Evaluate = 2
 
 -- what it prints for these lists
 unfoldable pub text_of : Program → List (List ℕ) → List ℕ
-text_of Transcript ls = transcript.listsText (get_or ls 0 []) (get_or ls 1 []) (get_or ls 2 [])
-text_of Verdict ls = verdict.listsText (get_or ls 0 []) (get_or ls 1 []) (get_or ls 2 []) (get_or ls 3 [])
-text_of Evaluate ls = output.listsText (get_or ls 0 []) (get_or ls 1 [])
+text_of Transcript ls = transcript.lists_text (get_or ls 0 []) (get_or ls 1 []) (get_or ls 2 [])
+text_of Verdict ls = verdict.lists_text (get_or ls 0 []) (get_or ls 1 []) (get_or ls 2 []) (get_or ls 3 [])
+text_of Evaluate ls = output.lists_text (get_or ls 0 []) (get_or ls 1 [])
 
 -- and for these bytes
 unfoldable pub program_text : Program → List ℕ → List ℕ

@@ -8,7 +8,7 @@ use libc::STDOUT_FILENO;
 use xdr::Arrays;
 
 // The specification's program, and one for each of the operations Check and Evaluate.
-#[derive(Drop)]
+#[derive(Clone, Copy)]
 pub enum Program {
     // Prints the honest transcript of a circuit, its input and coins.
     Transcript,

@@ -55,7 +55,7 @@ module _ (c input cs first : List ℕ) where
     pub all_start : (n : ℕ) → n ≡ layer_start c 1 → BeforeLayer 1 n 0 first
     all_start n e = record {
       reached =
-          loops.loops-start c legal n e
+          loops.loops_start c legal n e
           (saying_all (honest c input) (rounds c) (output_exponent c) cs (h.given.coins ∙ sym (as_many c)), omega (arith, message_words_lem c));
       written = refl;
     }
@@ -68,29 +68,29 @@ module _ (c input cs first : List ℕ) where
       layer_size = let rest = b.reached.left.1 in as_long at b.written (omega arith)
 
       pub layer_starts : layer ≤ depth c → BeforeRound layer 0 n at buffer
-      layer_starts inside = record { reached = loops.layer-starts c legal b.reached inside; written = b.written }
+      layer_starts inside = record { reached = loops.layer_starts c legal b.reached inside; written = b.written }
 
       pub all_end : depth c < layer → (at ≡ message_words c) × (buffer ≡ over all first)
       unfolding transcript
       all_end out =
-          let end = loops.loops-end c legal b.reached out in
+          let end = loops.loops_end c legal b.reached out in
           let size = saying_none (honest c input) (rounds c) (output_exponent c) cs end.0 in
           (omega (arith, end.1, sum_nil), b.written ∙ ap (λ (l : List ℕ). over l first) (take_all at all (le_of_eq size)))
 
     pub layer_ends : {layer round n at : ℕ} {buffer : List ℕ} → BeforeRound layer round n at buffer → 2 * exponent_at c layer + 1 ≤ round
         → BeforeLayer (layer + 1) n at buffer
-    layer_ends b done = record { reached = loops.layer-ends c legal b.reached done; written = b.written }
+    layer_ends b done = record { reached = loops.layer_ends c legal b.reached done; written = b.written }
 
   module _ {layer round n at : ℕ} {buffer : List ℕ} (due : Due layer round n at buffer) where
     opened : Rest at (place layer round ∷ before_round c layer (round + 1)) n
-    opened = loops.round-opened c (legal due.provable) due.before.reached due.more
+    opened = loops.round_opened c (legal due.provable) due.before.reached due.more
 
     pub coins_there : n < length cs
     coins_there = omega (arith, opened.0.coins)
 
     pub round_place : AtRound c (place layer round) (length (take n cs))
     round_place =
-        loops.round-place c (legal due.provable) due.before.reached due.more cs (let there = coins_there in omega arith)
+        loops.round_place c (legal due.provable) due.before.reached due.more cs (let there = coins_there in omega arith)
 
     words_left : at + message_length c (place layer round) ≤ message_words c
     words_left = sum_there (message_length c) (place layer round) (before_round c layer (round + 1)) at (message_words c) opened.1
@@ -119,7 +119,7 @@ module _ (c input cs first : List ℕ) where
         let front : length (take at all) ≡ at = length-take-le at all said.inside in
         record {
           reached =
-              loops.round-next c (legal due.provable) due.before.reached due.more (
+              loops.round_next c (legal due.provable) due.before.reached due.more (
                 subst (λ (m : ℕ). Saying (honest c input) (rounds c) (output_exponent c) cs (before_round c layer (round + 1)) (n + 1) (at + m)) size
                     (saying_next (honest c input) (rounds c) (output_exponent c) cs said),
                 sum_passed (message_length c) (place layer round) (before_round c layer (round + 1)) at (message_words c) opened.1,

@@ -13,21 +13,21 @@ use evaluation::MAX_VALUES;
 use refusal::{Cause, Checked};
 
 // An output, and the number of message words that were written for it.
-#[derive(Drop)]
+#[derive(Clone, Copy)]
 pub struct Proof {
     pub output: u32,
     pub words: usize,
 }
 
 // What a whole proof answers.
-#[derive(Drop)]
+#[derive(Clone, Copy)]
 pub enum Proved {
     Written(Proof),
     Refused(Cause),
 }
 
 // What a proof of one message answers: its word count.
-#[derive(Drop)]
+#[derive(Clone, Copy)]
 pub enum Message {
     Written(usize),
     Refused(Cause),
@@ -89,7 +89,7 @@ pub fn prove(circuit: &[u32], input: &[u32], coins: &[u32], messages: &mut [u32]
 }
 
 // A round of a layer.
-#[derive(Drop)]
+#[derive(Clone, Copy)]
 struct Place {
     layer: usize,
     round: usize,

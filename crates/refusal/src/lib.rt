@@ -2,7 +2,7 @@
 ghost use Rattle.std.specs.Prelude.{◌≡◌};
 ghost use Rattle.refusal.specs.Number.{number_of};
 
-#[derive(Drop)]
+#[derive(Clone, Copy)]
 pub enum Cause {
     // Fewer than two words.
     HeaderShort,
@@ -47,7 +47,7 @@ pub enum Cause {
 }
 
 // What a check of lists finds.
-#[derive(Drop)]
+#[derive(Clone, Copy)]
 pub enum Checked {
     Legal,
     Refused(Cause),

@@ -11,7 +11,7 @@ use field::Field;
 use refusal::{Cause, Checked};
 
 // What a step answers.
-#[derive(Drop)]
+#[derive(Clone, Copy)]
 pub enum Verdict {
     Accepted,
     GoOn(u32),
@@ -19,7 +19,7 @@ pub enum Verdict {
 }
 
 // A session's record: the place of the next message, the standing claim, and whether the session is open.
-#[derive(Drop)]
+#[derive(Clone, Copy)]
 pub struct Session {
     pub layer: u32,
     pub round: u32,
@@ -28,14 +28,14 @@ pub struct Session {
 }
 
 // What an opening answers.
-#[derive(Drop)]
+#[derive(Clone, Copy)]
 pub enum Opening {
     Opened(Session),
     Refused(Cause),
 }
 
 // A step's answer and the record after it.
-#[derive(Drop)]
+#[derive(Clone, Copy)]
 pub struct Stepped {
     pub verdict: Verdict,
     pub session: Session,

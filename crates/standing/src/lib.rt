@@ -111,7 +111,7 @@ pub fn standing_point(circuit: &[u32], layer: usize, past: &[u32]) -> [u32; MAX_
 
 // What stands at a round: the exponents of the layer above and of its own, the standing point, and the layer's coins so far as coordinates of
 // its two points.
-#[derive(Drop)]
+#[derive(Clone, Copy)]
 pub struct Stand {
     pub above: usize,
     pub own: usize,

@@ -15,7 +15,7 @@ use tally::Tally;
 
 // How a wire's number is cut: its `free` last bits are for the coordinates not fixed, `size` is 2^free, and `half` half of it, or 0 where
 // the next coordinate is the other point's.
-#[derive(Drop)]
+#[derive(Clone, Copy)]
 struct Cut {
     free: usize,
     size: usize,
@@ -24,7 +24,7 @@ struct Cut {
 
 // What the tables of one point say of a wire: the weight of its first bits, the value at the others, the value with the first of these
 // turned, and whether that bit is 1.
-#[derive(Drop)]
+#[derive(Clone, Copy)]
 struct Wire {
     share: u32,
     own: u32,
@@ -34,7 +34,7 @@ struct Wire {
 
 // A gate's share, and what it is multiplied by in the sum over the gates whose bit is 0, in that over those whose bit is 1, and in that of
 // the squares.
-#[derive(Drop)]
+#[derive(Clone, Copy)]
 struct Counts {
     share: u32,
     zeros: u32,

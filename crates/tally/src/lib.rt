@@ -12,7 +12,7 @@ const ROOM: u64 = 4611686018427387904;
 const WORD: u64 = 4294967296;
 
 // A sum of products: their high words are summed in one half and their low words in the other.
-#[derive(Drop)]
+#[derive(Clone, Copy)]
 pub struct Tally {
     pub high: u64,
     pub low: u64,

@@ -49,7 +49,7 @@ module _ (c ms before : List ℕ) where
     lines_start e = record {
       coins = layer_start c 1;
       stands =
-          loops.loops-start c legal (layer_start c 1) refl
+          loops.loops_start c legal (layer_start c 1) refl
           (record {
             done = [];
             wrote = wrote_none before;
@@ -60,15 +60,15 @@ module _ (c ms before : List ℕ) where
 
     module _ {text : List ℕ} {at to layer : ℕ} where
       pub layer_starts : BeforeLayer text at to layer → layer ≤ depth c → BeforeRound text at to layer 0
-      layer_starts b inside = record { coins = b.coins; stands = loops.layer-starts c legal b.stands inside }
+      layer_starts b inside = record { coins = b.coins; stands = loops.layer_starts c legal b.stands inside }
 
       pub layer_ends : {round : ℕ} → BeforeRound text at to layer round → 2 * exponent_at c layer + 1 ≤ round → BeforeLayer text at to (layer + 1)
-      layer_ends b done = record { coins = b.coins; stands = loops.layer-ends c legal b.stands done }
+      layer_ends b done = record { coins = b.coins; stands = loops.layer_ends c legal b.stands done }
 
       pub lines_end : BeforeLayer text at to layer → depth c < layer → Wrote (messages_text c (rounds c) ms) before text to
       unfolding messages_text
       lines_end b out =
-          let left = loops.loops-end c legal b.stands out in
+          let left = loops.loops_end c legal b.stands out in
           wrote_as left.done before text to left.wrote (messages_text c (rounds c) ms) (sym (append-nil left.done) ∙ left.whole)
 
   module _ {text : List ℕ} {at to layer round : ℕ} (due : Due text at to layer round) where
@@ -76,7 +76,7 @@ module _ (c ms before : List ℕ) where
     len = message_length c (place layer round)
 
     left : Left text at to (place layer round ∷ before_round c layer (round + 1)) due.here.coins
-    left = loops.round-opened c due.legal due.here.stands due.more
+    left = loops.round_opened c due.legal due.here.stands due.more
 
     pub words_there : at + len ≤ length ms
     words_there = sum_there (message_length c) (place layer round) (before_round c layer (round + 1)) at (length ms) left.counted
@@ -94,7 +94,7 @@ module _ (c ms before : List ℕ) where
         record {
           coins = due.here.coins + 1;
           stands =
-              loops.round-next c due.legal due.here.stands due.more
+              loops.round_next c due.legal due.here.stands due.more
               (record {
                 done = left.done ++ line;
                 wrote = wrote_more left.done before text to left.wrote line part n v;

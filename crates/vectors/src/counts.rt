@@ -9,7 +9,7 @@ use session::{Opening, Verdict};
 use verifier::Outcome;
 
 // Whose messages are counted.
-#[derive(Drop)]
+#[derive(Clone, Copy)]
 pub enum Messages {
     // the prover's, all at once
     Whole,

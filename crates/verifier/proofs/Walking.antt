@@ -57,16 +57,16 @@ module _ (k : Claimed) where
   pub walk_starts : Walkable c input cs ms → (n : ℕ) → n ≡ layer_start c 1 → BeforeLayer 1 n 0 y
   unfolding descent
   walk_starts h n e =
-      loops.loops-start c (legal h) n e
+      loops.loops_start c (legal h) n e
       (record { coins = h.given.coins ∙ sym (as_many c); words = omega (arith, message_words_lem c, h.words); same = refl })
 
   pub walk_ends : Walkable c input cs ms → {layer n at claim : ℕ} → BeforeLayer layer n at claim → depth c < layer
       → final_cause (input_agrees c input cs claim) ≡ walk_from c input y cs ms
-  walk_ends h b out = left_none run (loops.loops-end c (legal h) b out)
+  walk_ends h b out = left_none run (loops.loops_end c (legal h) b out)
 
   module _ {layer round n at claim : ℕ} (due : Due layer round n at claim) where
     opened : LeftAt at claim (place layer round ∷ before_round c layer (round + 1)) n
-    opened = loops.round-opened c (legal due.walkable) due.before due.more
+    opened = loops.round_opened c (legal due.walkable) due.before due.more
 
     pub coin_there : n < length cs
     coin_there = left_coin run opened
@@ -76,7 +76,7 @@ module _ (k : Claimed) where
     words_there = left_words run opened
 
     pub round_place : AtRound c (place layer round) (length (take n cs))
-    round_place = loops.round-place c (legal due.walkable) due.before due.more cs (let there = coin_there in omega arith)
+    round_place = loops.round_place c (legal due.walkable) due.before due.more cs (let there = coin_there in omega arith)
 
     module _ (w : ℕ) (ew : w ≡ message_length c (place layer round)) where
       abbrev message : List ℕ
@@ -92,7 +92,7 @@ module _ (k : Claimed) where
           let on = left_next run opened (ap (judge c (place layer round) (take n cs) claim) (sym same_message) ∙ e) in
           let claims : message_at c (take (message_length c (place layer round)) (drop at ms)) (get_or cs n 0) ≡ next =
           ap (λ (m : List ℕ). message_at c m (get_or cs n 0)) (sym same_message) ∙ sym en in
-          loops.round-next c (legal due.walkable) due.before due.more
+          loops.round_next c (legal due.walkable) due.before due.more
           (subst (λ (i : ℕ). LeftAt (at + i) next (before_round c layer (round + 1)) (n + 1)) (sym ew)
           (subst (λ (i : ℕ). LeftAt (at + message_length c (place layer round)) i (before_round c layer (round + 1)) (n + 1)) claims on))
 

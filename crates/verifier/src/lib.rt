@@ -10,7 +10,7 @@ use refusal::{Cause, Checked};
 use session::Opening;
 
 // What a whole check answers.
-#[derive(Drop)]
+#[derive(Clone, Copy)]
 pub enum Outcome {
     Accepted,
     Refused(Cause),

@@ -10,7 +10,7 @@ use refusal::Cause;
 const MAX_COUNT: u32 = 11541;
 
 // What reading answers: four counts, 0 for arrays not called for, or why nothing was read.
-#[derive(Drop)]
+#[derive(Clone, Copy)]
 pub enum Arrays {
     Counts {
         first: u32,
@@ -22,7 +22,7 @@ pub enum Arrays {
 }
 
 // What stands at a place of the bytes: an array of so many words, or none.
-#[derive(Drop)]
+#[derive(Clone, Copy)]
 enum Front {
     Count(u32),
     Unfit,
