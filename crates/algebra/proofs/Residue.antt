@@ -41,14 +41,14 @@ module _ (p : ℕ) (pos : 0 < p) where
   residues_ring = record {
     add_assoc = λ a b c. native.Mathlib.Fin.val_path (simp (mod-add-mod, add-mod-mod, add_assoc));
     add_comm = λ a b. native.Mathlib.Fin.val_path (simp (add_comm));
-    add-zero = λ a. native.Mathlib.Fin.val_path (simp (zero-mod, add-zero, mod-eq_of_lt a.1));
+    add_zero = λ a. native.Mathlib.Fin.val_path (simp (zero-mod, add-zero, mod-eq_of_lt a.1));
     sub_add = λ a b. native.Mathlib.Fin.val_path
         (mod-add-mod (a.0 + (p - b.0)) p b.0 ∙ ap (λ (n : ℕ). n % p) (restore a.0 b.0 (le_of_lt b.1))
         ∙ add-mod_right a.0 p ∙ mod-eq_of_lt a.1);
     mul_assoc = λ a b c. native.Mathlib.Fin.val_path (simp (mod_mul_left, mod_mul_right, mul_assoc));
     mul_comm = λ a b. native.Mathlib.Fin.val_path (simp (mul_comm));
-    mul-one = λ a. native.Mathlib.Fin.val_path (simp (mod_mul_right, mul-one, mod-eq_of_lt a.1));
-    mul-add = λ a b c. native.Mathlib.Fin.val_path (simp (mod_mul_right, mod-add-mod, add-mod-mod, mul-add));
+    mul_one = λ a. native.Mathlib.Fin.val_path (simp (mod_mul_right, mul-one, mod-eq_of_lt a.1));
+    mul_add = λ a b c. native.Mathlib.Fin.val_path (simp (mod_mul_right, mod-add-mod, add-mod-mod, mul-add));
   }
 
   -- on words every operation is reduced, so it has the residue that the ring's operation gives

@@ -14,7 +14,7 @@ use native.Mathlib.Omega.{arith}
 use native.Mathlib.Decide.{dec_le}
 use Rattle.algebra.specs.Numbers.{Numbers}
 use Rattle.algebra.specs.Ring.{Ring}
-use Rattle.algebra.proofs.Ring.{ring, neg, mul-zero, zero_mul, zero_add, one_mul, sub_zero, add_sub}
+use Rattle.algebra.proofs.Ring.{ring, neg, mul_zero, zero_mul, zero_add, one_mul, sub_zero, add_sub}
 
 pub data Expr : Type 0 where
   var : ℕ → Expr
@@ -110,7 +110,7 @@ module _ {C : Type 0} {N : Numbers C} (R : Ring N) where
 
   nat_add : (a b : ℕ) → nat (a + b) ≡ nat a ⊕ nat b
   unfolding nat
-  nat_add a zero = rw (add-zero a) (sym (R.add-zero (nat a)))
+  nat_add a zero = rw (add-zero a) (sym (R.add_zero (nat a)))
   nat_add a (suc b) = rw (add-suc a b) (ap (λ (x : C). x ⊕ 𝟙) (nat_add a b) ∙ R.add_assoc (nat a) (nat b) 𝟙)
 
   step : (x y : C) → x ⊗ y ⊕ x ≡ x ⊗ (y ⊕ 𝟙)
@@ -118,7 +118,7 @@ module _ {C : Type 0} {N : Numbers C} (R : Ring N) where
 
   nat_mul : (a b : ℕ) → nat (a * b) ≡ nat a ⊗ nat b
   unfolding nat
-  nat_mul a zero = rw (n-mul-zero a) (sym (mul-zero R (nat a)))
+  nat_mul a zero = rw (n-mul-zero a) (sym (mul_zero R (nat a)))
   nat_mul a (suc b) = rw (mul-suc a b, nat_add (a * b) a, nat_mul a b) (step (nat a) (nat b))
 
   nat_zero : nat 0 ≡ 𝟘
@@ -217,7 +217,7 @@ module _ {C : Type 0} {N : Numbers C} (R : Ring N) where
 
     mul_t_ok : (a b : ℕ) (m : List ℕ) (p : List Term) → ev_p (mul_t a b m p) ≡ co a b ⊗ ev_m m ⊗ ev_p p
     unfolding mul_t ev_p
-    mul_t_ok a b m [] = sym (mul-zero R (co a b ⊗ ev_m m))
+    mul_t_ok a b m [] = sym (mul_zero R (co a b ⊗ ev_m m))
     mul_t_ok a b m (term c d n ∷ p) =
         ins_ok (a * c + b * d) (a * d + b * c) (mul_m m n) (mul_t a b m p)
         ∙ ap₂ (λ (x y : C). x ⊗ y ⊕ ev_p (mul_t a b m p)) (co_mul a b c d) (mul_m_ok m n)
