@@ -1,7 +1,7 @@
 -- The root bound. A root r of f splits off: f(x) = f(r) + (x - r) q(x), and where there are no zero divisors every other root of f is one
 -- of q, which is shorter; so as many distinct roots as coefficients leave only the zero polynomial. Two lists are compared by their difference.
 -- Assumes nothing.
-use Prim.Native.Nat.{ℕ, suc, ◌+◌, ◌≤◌, ◌<◌, Fin}
+use Prim.Native.Nat.{ℕ, suc, ◌≤◌, ◌<◌, Fin}
 use mathlib.Core.Path.{◌≡◌, refl, sym, ◌∙◌, ap, ap₂, subst}
 use mathlib.Core.Logic.{◌⊎◌, inl, inr, ◌≢◌}
 use mathlib.Core.Bool.{true}

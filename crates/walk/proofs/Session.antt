@@ -1,7 +1,7 @@
 -- The session and the whole check end alike, and no answer looks ahead.
 -- Assumes nothing.
-use Prim.Native.Nat.{ℕ, zero, suc, ◌+◌, ◌-◌, ◌<◌}
-use mathlib.Core.Path.{◌≡◌, refl, sym, ap, ◌∙◌}
+use Prim.Native.Nat.{ℕ, zero, suc, ◌<◌}
+use mathlib.Core.Path.{◌≡◌, refl, sym, ap, ap₂, ◌∙◌}
 use mathlib.Core.Bool.{Bool, true, false, cond, false≢true}
 use mathlib.Core.List.{List, [], ◌∷◌, ◌++◌, map, flatten, append-nil, append_assoc}
 use native.Mathlib.Nat.{suc_inj, suc-ne-zero, not-suc-le-zero, le_of_suc-le-suc}
@@ -133,9 +133,12 @@ module _ {R : Type 0} (g : Game R) (final : Comparison) where
       let past' : List ℕ = past ++ (c ∷ []) in
       let ih : end_of (calls g final (past' ++ cs) (at r' (g.next m c)) ms) ≡ walk g final (r' ∷ rs) past' (g.next m c) (flatten ms) cs =
       session_walk r' rs past' (g.next m c) ms cs (rw (length-append, add-one) ch.2) sz.1 (suc_inj n) in
-      rw (step_at past c r claim m cs ch.0, take_at m (flatten ms) (g.len r) sz.0, drop_at m (flatten ms) (g.len r) sz.0)
+      let taken : take (g.len r) (flatten (m ∷ ms)) ≡ m = take_at m (flatten ms) (g.len r) sz.0 in
+      let left : drop (g.len r) (flatten (m ∷ ms)) ≡ flatten ms = drop_at m (flatten ms) (g.len r) sz.0 in
+      rw (step_at past c r claim m cs ch.0)
       (more_end past c r claim m (g.judge r past claim m) (past ++ c ∷ cs) ms ch.1.0
-      ∙ ap (first (g.judge r past claim m)) (rw ch.1.1 (rw append_assoc at ih)))
+      ∙ ap (first (g.judge r past claim m)) (rw ch.1.1 (rw append_assoc at ih))
+      ∙ sym (ap₂ (λ (a b : List ℕ). first (g.judge r past claim a) (walk g final (r' ∷ rs) past' (g.next a c) b cs)) taken left))
 
   -- the session accepts exactly when it ends with 0
   step_ends : (b : Bool) (past : List ℕ) (c : ℕ) (s : Record R) (m : List ℕ) (all : List ℕ) (ms : List (List ℕ)) → s.opened ≡ b
