@@ -62,7 +62,7 @@ module _ {C : Type 0} {N : Numbers C} (R : Ring N) {A : Type 0} where
 
   pub sum_from_add : (f g : ℕ → A → C) (a : ℕ) (l : List A) → sum_from N (λ i x. f i x ⊕ g i x) a l ≡ sum_from N f a l ⊕ sum_from N g a l
   unfolding sum_from
-  sum_from_add f g a [] = sym (R.add-zero 𝟘)
+  sum_from_add f g a [] = sym (R.add_zero 𝟘)
   sum_from_add f g a (x ∷ l) = ap (λ (y : C). f a x ⊕ g a x ⊕ y) (sum_from_add f g (suc a) l) ∙ four (f a x) (g a x) (sum_from N f (suc a) l) (sum_from N g (suc a) l)
     where
       four : (s t u v : C) → s ⊕ t ⊕ (u ⊕ v) ≡ s ⊕ u ⊕ (t ⊕ v)
