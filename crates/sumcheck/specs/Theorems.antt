@@ -1,6 +1,6 @@
 -- What this crate proves, on words.
 -- Assumes nothing.
-use Rattle.std.specs.Prelude.{ℕ, suc, ◌+◌, ◌*◌, ◌^◌, ◌≤◌, ◌<◌, ◌≡◌, List, [], ◌∷◌, ◌++◌, map, length}
+use Rattle.std.specs.Prelude.{ℕ, suc, ◌*◌, ◌^◌, ◌≤◌, ◌<◌, ◌≡◌, List, [], ◌∷◌, ◌++◌, map, length}
 use Rattle.lists.specs.Each.{All}
 use Rattle.primes.specs.Prime.{Prime}
 use Rattle.algebra.specs.Numbers.{Numbers, words}
