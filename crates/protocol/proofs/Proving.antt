@@ -3,7 +3,7 @@
 -- Assumes nothing.
 use Prim.Native.Nat.{ℕ, zero, suc, ◌+◌, ◌≤◌, ◌<◌}
 use mathlib.Core.Path.{◌≡◌, refl, sym, ap, ap₂, ◌∙◌}
-use mathlib.Core.Bool.{Bool, true, false, cond, false≢true}
+use mathlib.Core.Bool.{Bool, true, false, cond, ◌&&◌, false≢true}
 use mathlib.Core.List.{List, [], ◌∷◌, ◌++◌}
 use native.Mathlib.Omega.{arith}
 use lib.Dec.{eqb, ltb}
@@ -29,7 +29,7 @@ use Rattle.protocol.specs.Start.{first_point, later_coins, coins_to}
 use Rattle.protocol.specs.Rounds.{Place, place, rounds, AtRound}
 use Rattle.protocol.specs.Judge.{message_length, descent}
 use Rattle.protocol.specs.Check.{check_answer}
-use Rattle.protocol.specs.Session.{session_on}
+use Rattle.protocol.specs.Session.{open_cause, session_on}
 use Rattle.protocol.specs.Prove.{Proof, proved, refused, OneMessage, wrote, proof_of, one_of, honest, messages_on, transcript, place_of, message_in, asking, Roomy}
 use Rattle.protocol.specs.Prove.{prove_cause, prove_answer, prove_buffer, prove_one_cause, prove_one_answer, prove_one_buffer}
 use Rattle.protocol.specs.Theorems.{ProvedAccepted, ProvedInTurn, WrittenInTurn, AskedAccepted}
@@ -175,5 +175,6 @@ module _ (c input : List ℕ) (legal : lists_cause c input ≡ 0) (buffer : List
 
 pub asked_accepted : AskedAccepted
 asked_accepted c input legal buffer room cs v =
-    ap (λ (ms : List (List ℕ)). any_accepted (session_on c input (value c input) cs ms)) (asked_same c input legal buffer room cs v)
+    ap (λ (ms : List (List ℕ)). passes (open_cause c input (value c input) cs) && any_accepted (session_on c input (value c input) cs ms))
+    (asked_same c input legal buffer room cs v)
     ∙ session_complete c input legal cs v
