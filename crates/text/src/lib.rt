@@ -1,5 +1,7 @@
 // Lines of a word and decimal numbers, as ASCII bytes at the front of a lent buffer. Each function writes as much as the buffer holds and
 // answers how much that is, so that one line can follow another without a test between them.
+#![tactic(auto)]
+
 ghost use Rattle.text.specs.Lines.{number_text, numbers_text, line_text};
 ghost use Rattle.text.specs.Wrote.{Wrote};
 

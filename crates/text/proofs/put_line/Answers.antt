@@ -1,0 +1,10 @@
+-- `put_line` meets its contract: the word, then the numbers, then the line's end.
+use Rattle.text.specs.Lines.{line_text}
+use Rattle.text.proofs.Writing.{wrote_more}
+use Rattle.text.proofs.put_line.Goals as goal
+
+pub returns : goal.returns
+unfolding line_text
+returns c =
+    let both = wrote_more _ _ _ _ c.put-first.ensures _ _ _ c.put_numbers.ensures in
+    wrote_more _ _ _ _ both _ _ _ c.put.ensures
