@@ -1,1 +1,2 @@
 // Primes, rings and coefficient lists: this crate has no function.
+#![tactic(auto)]

@@ -1,5 +1,7 @@
 // What the test program reads and prints with, whatever the operation: a case from standard input, its parts and lists; and numbers, refusals
 // and buffers as its lines have them. Nothing is required of a case: what would stand past its end is left out, and the line then differs.
+#![tactic(auto)]
+
 ghost use Rattle.std.specs.Prelude.{◌≡◌, ◌<◌, min, length, take};
 ghost use Rattle.lists.specs.Buffer.{over};
 ghost use Rattle.refusal.specs.Number.{number_of};

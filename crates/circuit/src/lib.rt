@@ -1,1 +1,2 @@
 // Circuits, from their word lists: this crate has no function.
+#![tactic(auto)]

@@ -1,4 +1,6 @@
 // What the program `evaluate` prints for lists: the output of a circuit and input, or why there is none.
+#![tactic(auto)]
+
 ghost use Rattle.text.specs.Wrote.{Wrote};
 ghost use Rattle.evaluate_text.specs.Output.{lists_text};
 

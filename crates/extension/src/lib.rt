@@ -1,5 +1,7 @@
 // The multilinear extension of a list of words, and the weight of an index, modulo a field's modulus. Both are right for lists and points of
 // any length.
+#![tactic(auto)]
+
 ghost use Rattle.std.specs.Prelude.{◌≡◌};
 ghost use Rattle.field.specs.Modulus.{numbers};
 ghost use Rattle.multilinear.specs.Extension.{weight, between, halving};

@@ -1,5 +1,7 @@
 // Arithmetic modulo a number of at most 32 bits. Every function is right for all words, residues or not, and asks nothing of its caller;
 // on residues the short branches are the ones taken.
+#![tactic(auto)]
+
 ghost use Rattle.std.specs.Prelude.{◌≡◌, ◌-◌, ◌%◌};
 ghost use Rattle.primes.specs.Prime.{is_listed};
 ghost use Rattle.field.specs.Modulus.{modulus, numbers};

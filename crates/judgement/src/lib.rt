@@ -1,5 +1,7 @@
 // The one judgement of a message, and the last comparison. The whole check and a session's step both judge by it. The public functions are
 // total; they promise nothing where the list is no legal circuit or the coins are not those before the place.
+#![tactic(auto)]
+
 ghost use Rattle.protocol.specs.Rounds.{place};
 ghost use Rattle.judgement.specs.Judged.{ClaimsLine, Compares, Judges, ComparesLast};
 

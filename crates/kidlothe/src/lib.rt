@@ -1,5 +1,7 @@
-// The operations for programs in C and in Rust: numbers by value, a list as a pointer and a length, a session's record as four words. An
+// The operations as they are exported to programs in C and in Rust: numbers by value, a list as a pointer and a length, a session's record as four words. An
 // answer is plain numbers: a refusal's number, 0 where nothing is refused, and beside it what the operation answers, 0 where it is refused.
+#![tactic(auto)]
+
 ghost use Rattle.std.specs.Prelude.{◌≡◌};
 ghost use Rattle.circuit.specs.Legal.{load_answer};
 ghost use Rattle.protocol.specs.Check.{check_answer};
@@ -15,7 +17,7 @@ use verifier::Outcome;
 use xdr::Arrays;
 
 // The words of a session's record, and the word of an open one.
-const SESSION_WORDS: usize = 4;
+pub const SESSION_WORDS: usize = 4;
 
 const OPEN: u32 = 1;
 
@@ -65,8 +67,7 @@ pub struct Step {
 }
 
 // Load.
-#[unsafe(no_mangle)]
-pub extern "C" fn kidlothe_load(circuit: &[u32]) -> u32
+pub fn kidlothe_load(circuit: &[u32]) -> u32
     ensures { result ≡ load_answer circuit.now }
 {
     let loaded = legality::load(circuit);
@@ -77,12 +78,7 @@ pub extern "C" fn kidlothe_load(circuit: &[u32]) -> u32
 }
 
 // Evaluate.
-#[unsafe(no_mangle)]
-pub extern "C" fn kidlothe_evaluate(
-    circuit: &[u32],
-    input: &[u32],
-    buffer: &mut [u32],
-) -> Evaluation
+pub fn kidlothe_evaluate(circuit: &[u32], input: &[u32], buffer: &mut [u32]) -> Evaluation
     ensures { ExportsEvaluate circuit.now input.now buffer.old result buffer.new }
 {
     let evaluated = evaluation::evaluate(circuit, input, buffer);
@@ -96,8 +92,7 @@ pub extern "C" fn kidlothe_evaluate(
 }
 
 // Read.
-#[unsafe(no_mangle)]
-pub extern "C" fn kidlothe_read(bytes: &[u8], number: u32, buffer: &mut [u32]) -> Counts
+pub fn kidlothe_read(bytes: &[u8], number: u32, buffer: &mut [u32]) -> Counts
     ensures { ExportsRead number bytes.now buffer.old result buffer.new }
 {
     let read = xdr::read(bytes, number, buffer);
@@ -125,13 +120,7 @@ pub extern "C" fn kidlothe_read(bytes: &[u8], number: u32, buffer: &mut [u32]) -
 }
 
 // Prove, whole.
-#[unsafe(no_mangle)]
-pub extern "C" fn kidlothe_prove(
-    circuit: &[u32],
-    input: &[u32],
-    coins: &[u32],
-    messages: &mut [u32],
-) -> Proof
+pub fn kidlothe_prove(circuit: &[u32], input: &[u32], coins: &[u32], messages: &mut [u32]) -> Proof
     ensures { ExportsProve circuit.now input.now coins.now messages.old result messages.new }
 {
     let proved = prover::prove(circuit, input, coins, messages);
@@ -150,8 +139,7 @@ pub extern "C" fn kidlothe_prove(
 }
 
 // Prove, one message.
-#[unsafe(no_mangle)]
-pub extern "C" fn kidlothe_prove_one(
+pub fn kidlothe_prove_one(
     circuit: &[u32],
     input: &[u32],
     prefix: &[u32],
@@ -170,8 +158,7 @@ pub extern "C" fn kidlothe_prove_one(
 }
 
 // Check, whole: 0 is accepted.
-#[unsafe(no_mangle)]
-pub extern "C" fn kidlothe_check(
+pub fn kidlothe_check(
     circuit: &[u32],
     input: &[u32],
     output: u32,
@@ -223,8 +210,7 @@ fn step_words(before: &[u32; SESSION_WORDS], after: Session) -> [u32; SESSION_WO
 }
 
 // Open session: 0 is opened.
-#[unsafe(no_mangle)]
-pub extern "C" fn kidlothe_open(
+pub fn kidlothe_open(
     circuit: &[u32],
     input: &[u32],
     output: u32,
@@ -267,8 +253,7 @@ fn step_of(verdict: Verdict) -> Step
 }
 
 // Step.
-#[unsafe(no_mangle)]
-pub extern "C" fn kidlothe_step(
+pub fn kidlothe_step(
     circuit: &[u32],
     input: &[u32],
     coins: &[u32],

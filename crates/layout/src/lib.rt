@@ -1,5 +1,7 @@
 // The circuit list's layout: p, D, k_1 to k_D, then the gates of layers 0 to D-1 in order. Where each part stands is said here alone. Every
 // function is total: of what the list has not it gives 0 or nothing.
+#![tactic(auto)]
+
 ghost use Rattle.std.specs.Prelude.{◌≡◌, ◌^◌, ◌<◌, leb, length, drop};
 ghost use Rattle.circuit.specs.Limits.{header_words};
 ghost use Rattle.circuit.specs.Circuit.{prime_of, depth, exponents, exponent_at, width_of, gates_start, word_count};

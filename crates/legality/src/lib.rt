@@ -1,4 +1,6 @@
 // Legality: which lists are a circuit and its input, and why others are refused.
+#![tactic(auto)]
+
 ghost use Rattle.std.specs.Prelude.{◌≡◌, ◌*◌, ◌≤◌, length};
 ghost use Rattle.refusal.specs.Number.{cause_of};
 ghost use Rattle.circuit.specs.Gate.{gate};

@@ -1,5 +1,7 @@
 // The line message of a layer: the coefficients of the extension of its values along the line between two points, modulo a field's modulus.
 // It is right for values and points of any words.
+#![tactic(auto)]
+
 ghost use Rattle.std.specs.Prelude.{◌≤◌, ◌<◌, ◌≡◌, [], length, take, get_or};
 ghost use Rattle.lists.specs.Buffer.{over};
 ghost use Rattle.field.specs.Modulus.{numbers};

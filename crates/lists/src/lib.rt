@@ -1,5 +1,7 @@
 // Definitions and laws about lists; and what the other crates do with lists of words: a word of one, words over the front of another, and the
 // smaller of two lengths, which callers clip a part of a list by.
+#![tactic(auto)]
+
 ghost use Rattle.std.specs.Prelude.{◌≡◌, min, length, take, get_or};
 ghost use Rattle.lists.specs.Buffer.{over};
 

@@ -1,1 +1,2 @@
 // No code: what holds of any functions that keep the operations' contracts.
+#![tactic(auto)]

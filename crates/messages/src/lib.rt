@@ -1,5 +1,7 @@
 // The one writer of an honest message into a lent buffer. Every function is total; it promises nothing where the list is no legal circuit, the
 // coins are not those before the place, the values are not the layers', or the buffer has no room.
+#![tactic(auto)]
+
 ghost use Rattle.std.specs.Prelude.{true, false};
 ghost use Rattle.messages.specs.Writing.{WritesMessage, WritesIf};
 

@@ -1,1 +1,2 @@
 // The multilinear extension and its laws: this crate has no function.
+#![tactic(auto)]

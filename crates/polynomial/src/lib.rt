@@ -1,4 +1,6 @@
 // The value of a polynomial at a word, modulo a field's modulus. It is right for coefficient lists of any length and any words.
+#![tactic(auto)]
+
 ghost use Rattle.std.specs.Prelude.{◌≡◌};
 ghost use Rattle.field.specs.Modulus.{numbers};
 ghost use Rattle.algebra.specs.Polynomial.{value_at};

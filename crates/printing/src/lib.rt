@@ -1,4 +1,6 @@
 // What the programs share: the limits of their input, the arrays that they read from it, and the line of a refusal.
+#![tactic(auto)]
+
 ghost use Rattle.std.specs.Prelude.{◌≡◌};
 ghost use Rattle.lists.specs.Buffer.{over};
 ghost use Rattle.refusal.specs.Number.{number_of};

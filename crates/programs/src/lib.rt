@@ -1,5 +1,7 @@
 // The programs, from the bytes on standard input to what is printed. The text is written to a buffer first, since no promise can speak of
 // standard output.
+#![tactic(auto)]
+
 ghost use Rattle.std.specs.Prelude.{◌≡◌, [], ◌∷◌, ◌+◌, ◌≤◌, length, take, drop};
 ghost use Rattle.text.specs.Wrote.{Wrote};
 ghost use Rattle.programs.specs.Programs.{arrays_of, text_of, program_text, longest};

@@ -1,4 +1,6 @@
 // The prover: the honest messages, all of them or the one that follows a coin prefix.
+#![tactic(auto)]
+
 ghost use Rattle.std.specs.Prelude.{◌≡◌, ◌<◌, length};
 ghost use Rattle.circuit.specs.Circuit.{coin_count};
 ghost use Rattle.circuit.specs.Limits.{max_values};

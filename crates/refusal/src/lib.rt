@@ -1,4 +1,6 @@
 // Why an operation refuses: a case for each number of the specification.
+#![tactic(auto)]
+
 ghost use Rattle.std.specs.Prelude.{◌≡◌};
 ghost use Rattle.refusal.specs.Number.{number_of};
 

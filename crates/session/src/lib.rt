@@ -1,4 +1,6 @@
 // A session: its opening, and one message at a time.
+#![tactic(auto)]
+
 ghost use Rattle.std.specs.Prelude.{◌≡◌};
 ghost use Rattle.refusal.specs.Number.{number_of};
 ghost use Rattle.circuit.specs.Sized.{LegalCircuit};

@@ -1,5 +1,7 @@
 // Where a walk stands: what a round's place and the coins before it say of a circuit. The check and the prover both read it here. Every function
 // is total; some promise nothing where the list is no legal circuit or the coins are not those before the place.
+#![tactic(auto)]
+
 ghost use Rattle.std.specs.Prelude.{◌≡◌, ◌≤◌, take};
 ghost use Rattle.extension.specs.Limits.{row_length};
 ghost use Rattle.protocol.specs.Rounds.{place, is_line};

@@ -1,4 +1,6 @@
 // The summand of a layer and the line between the two points of a claim, modulo a field's modulus. All of it is right for any words.
+#![tactic(auto)]
+
 ghost use Rattle.std.specs.Prelude.{◌≡◌, [], take, get_or};
 ghost use Rattle.field.specs.Modulus.{numbers};
 ghost use Rattle.sumcheck.specs.Summand.{gate_weight, combined, line_point};

@@ -1,4 +1,6 @@
 // The honest message of a sum round, modulo a field's modulus, in one pass over the gates. All of it is right for any words.
+#![tactic(auto)]
+
 ghost use Rattle.std.specs.Prelude.{◌≡◌, ◌%◌, ◌≤◌, min, ltb, leb, take};
 ghost use Rattle.field.specs.Modulus.{modulus, numbers};
 ghost use Rattle.extension.specs.Limits.{row_length};

@@ -1,1 +1,2 @@
 // The worked cases of the specification, proved against its definitions: this crate has no function.
+#![tactic(auto)]

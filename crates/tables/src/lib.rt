@@ -1,6 +1,8 @@
 // Tables over the gates of a layer, modulo a field's modulus: the weights of all indices at a point, and values with their first variables
 // fixed. A row's first k words are the point; a k above its length stands for all of it. All of it is right for any words. The caller lends
 // the table, so that none is copied on the way back; one of another length than MAX_WIDTH is left as it was.
+#![tactic(auto)]
+
 ghost use Rattle.std.specs.Prelude.{◌≡◌, ◌/◌, length, take};
 ghost use Rattle.lists.specs.Buffer.{over};
 ghost use Rattle.field.specs.Modulus.{numbers};

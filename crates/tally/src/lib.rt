@@ -1,4 +1,6 @@
 // Sums of products that are reduced once, at their end, and not for each product. All of it is right for any words and any halves.
+#![tactic(auto)]
+
 ghost use Rattle.std.specs.Prelude.{◌≡◌, ℕ, ◌%◌, ◌^◌, ◌<◌};
 ghost use Rattle.field.specs.Modulus.{modulus, numbers};
 ghost use Rattle.tally.specs.Tally.{tallied};

@@ -1,4 +1,6 @@
 // What the program `transcript` prints for lists: the honest transcript of a circuit, input and coins, or why there is none.
+#![tactic(auto)]
+
 ghost use Rattle.std.specs.Prelude.{◌≡◌, length};
 ghost use Rattle.circuit.specs.Circuit.{message_words};
 ghost use Rattle.circuit.specs.Sized.{LegalCircuit};

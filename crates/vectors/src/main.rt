@@ -13,6 +13,8 @@
 //
 // The line of a case is the operation's answer, or `refused` and the number, and then the buffer that was lent or the record, as the
 // operation left it. What a program prints stands on the note's line, a transcript on lines of its own.
+#![tactic(auto)]
+
 mod circuits;
 mod counts;
 mod provers;

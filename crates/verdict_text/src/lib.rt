@@ -1,4 +1,6 @@
 // What the program `verdict` prints for lists: whether a transcript is accepted for a circuit, input and coins.
+#![tactic(auto)]
+
 ghost use Rattle.text.specs.Wrote.{Wrote};
 ghost use Rattle.verifier.specs.Answers.{outcome_of};
 ghost use Rattle.printing.specs.Printed.{answer_text};

@@ -1,4 +1,6 @@
 // The whole check of an argued output.
+#![tactic(auto)]
+
 ghost use Rattle.std.specs.Prelude.{◌≡◌};
 ghost use Rattle.walk.specs.Game.{final_cause};
 ghost use Rattle.protocol.specs.Judge.{input_agrees};

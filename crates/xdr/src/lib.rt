@@ -1,4 +1,6 @@
 // Reads arrays of unsigned integers from bytes (RFC 4506): first all counts, so that a refusal leaves the buffer as it was, then the words.
+#![tactic(auto)]
+
 ghost use Rattle.std.specs.Prelude.{◌≡◌, cond, ◌+◌, ◌/◌, ◌≤◌, ◌<◌, min, length, take, drop};
 ghost use Rattle.std.proofs.Math.Option.{IsSome};
 ghost use Rattle.lists.specs.Buffer.{over};
