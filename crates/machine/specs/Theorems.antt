@@ -13,7 +13,8 @@ use Rattle.protocol.specs.Rounds.{Place, rounds}
 use Rattle.protocol.specs.Judge.{descent}
 use Rattle.protocol.specs.Prove.{honest, Roomy}
 use Rattle.protocol.specs.Accept.{FitsCircuit}
-use Rattle.protocol.specs.Theorems.{Acceptance, PassesAll, PassesFew, PassesByLuck, MessagePasses}
+use Rattle.protocol.specs.Shares.{PassesAll, PassesFew, PassesByLuck}
+use Rattle.protocol.specs.Theorems.{Acceptance, MessagePasses}
 use Rattle.machine.specs.Words.{Word, Words, WordRule, WordLists}
 use Rattle.machine.specs.Machine.{Machine, is_begun, answers, whole_accepts, session_accepts, proves_and_accepts, asking}
 use Rattle.machine.specs.Code.{Code, KeepsContracts, of_code}

@@ -4,5 +4,6 @@ pub mod Judge
 pub mod Check
 pub mod Session
 pub mod Prove
+pub mod Shares
 pub mod Accept
 pub mod Theorems

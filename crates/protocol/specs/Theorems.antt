@@ -15,19 +15,8 @@ use Rattle.protocol.specs.Judge.{message_length, descent}
 use Rattle.protocol.specs.Check.{check_answer}
 use Rattle.protocol.specs.Session.{open_cause, record_left, step_answer, session_on}
 use Rattle.protocol.specs.Prove.{honest, messages_on, place_of, proved, wrote, prove_answer, prove_buffer, prove_one_answer, prove_one_buffer, asking, Roomy}
+use Rattle.protocol.specs.Shares.{PassesAll}
 use Rattle.protocol.specs.Accept.{FitsCircuit, whole_accepts, session_accepts}
-
--- SHARES of a circuit's coin lists: a test that passes all of them; one that passes at most 5 × K × p^(n-1) of the p^n
-abbrev pub PassesAll : List ℕ → (List ℕ → Bool) → Type 0
-PassesAll c test = (cs : List ℕ) → CoinList (prime_of c) (coin_count c) cs → test cs ≡ true
-
-abbrev pub PassesFew : List ℕ → (List ℕ → Bool) → Type 0
-PassesFew c test = passing (prime_of c) (coin_count c) test ≤ 5 * exponent_sum c * prime_of c ^ (coin_count c - 1)
-
--- and the sharp share: of the p^n coin lists those do not pass on which no coin is lucky, a message of d + 1 words having at most d lucky coins
-abbrev pub PassesByLuck : List ℕ → (List ℕ → Bool) → Type 0
-PassesByLuck c test =
-    passing (prime_of c) (coin_count c) test + luckless (prime_of c) (map (λ r. message_length c r - 1) (rounds c)) ≤ prime_of c ^ coin_count c
 
 -- acceptance of a coin list, for a circuit, an input, an output and a rule
 abbrev pub Acceptance : Type 0

@@ -1,0 +1,20 @@
+-- Shares of a circuit's coin lists, as the theorems about the machine name them.
+-- Assumes nothing.
+use Rattle.std.specs.Prelude.{ℕ, ◌+◌, ◌-◌, ◌*◌, ◌^◌, ◌≤◌, ◌≡◌, Bool, true, List, map}
+use Rattle.counting.specs.Coins.{CoinList, passing}
+use Rattle.counting.specs.Doomed.{luckless}
+use Rattle.circuit.specs.Circuit.{prime_of, coin_count, exponent_sum}
+use Rattle.protocol.specs.Rounds.{rounds}
+use Rattle.protocol.specs.Judge.{message_length}
+
+-- a test that passes all of them; one that passes at most 5 × K × p^(n-1) of the p^n
+abbrev pub PassesAll : List ℕ → (List ℕ → Bool) → Type 0
+PassesAll c test = (cs : List ℕ) → CoinList (prime_of c) (coin_count c) cs → test cs ≡ true
+
+abbrev pub PassesFew : List ℕ → (List ℕ → Bool) → Type 0
+PassesFew c test = passing (prime_of c) (coin_count c) test ≤ 5 * exponent_sum c * prime_of c ^ (coin_count c - 1)
+
+-- and the sharp share: of the p^n coin lists those do not pass on which no coin is lucky, a message of d + 1 words having at most d lucky coins
+abbrev pub PassesByLuck : List ℕ → (List ℕ → Bool) → Type 0
+PassesByLuck c test =
+    passing (prime_of c) (coin_count c) test + luckless (prime_of c) (map (λ r. message_length c r - 1) (rounds c)) ≤ prime_of c ^ coin_count c
