@@ -11,7 +11,7 @@ use borrow.Author.Tests.{lt-leb, le-leb}
 use Rattle.lists.specs.Buffer.{over}
 use Rattle.lists.proofs.Front.{front_take}
 use Rattle.refusal.specs.Number.{number_of}
-use Rattle.refusal.specs.Order.{need, first}
+use Rattle.refusal.specs.Order.{need}
 use Rattle.refusal.specs.declared.Cause.{Cause}
 use Rattle.refusal.specs.declared.Cause.TheVariants.{BufferShort}
 use Rattle.refusal.proofs.Order.{refused_first, refused_by, left_by}

@@ -1,0 +1,73 @@
+-- `evaluate` meets its contract: each return is one case of its answer, and only the last writes.
+use mathlib.Core.Path.{◌≡◌, sym, ap, ◌∙◌}
+use mathlib.Core.List.{List}
+use Prim.Native.Nat.{ℕ, ◌+◌}
+use native.Mathlib.Nat.{le_of_eq}
+use native.Mathlib.Omega.{arith}
+use lib.ListN.{length, take}
+use lib.Seq.{length-take-le}
+use Rattle.lists.proofs.Buffer.{over_whole}
+use Rattle.refusal.proofs.Told.{refusal_told, none_told}
+use Rattle.circuit.specs.Circuit.{depth, gates_before}
+use Rattle.circuit.specs.Legal.{lists_cause}
+use Rattle.circuit.proofs.Sized.{layer_of}
+use Rattle.circuit.proofs.Loading.{legal_lists}
+use Rattle.layout.specs.Gates.{GatesBefore}
+use Rattle.evaluation.proofs.Evaluating.{input_ends, input_fits}
+use Rattle.evaluation.proofs.Answering.{left_lists, left_short, left_values}
+use Rattle.evaluation.proofs.evaluate.Goals as goal
+
+-- where the input begins
+place : (c input : List ℕ) (d r : ℕ) → lists_cause c input ≡ 0 → d ≡ depth c → GatesBefore c d r → r ≡ gates_before c (depth c)
+place c input d r e deep b =
+    b.counted (layer_of c (legal_lists c input e).circuit d (le_of_eq deep)) ∙ ap (gates_before c) deep
+
+pub returns-in-Refused : goal.returns-in-Refused
+returns-in-Refused c =
+    left_lists _ _ _ c.in-Refused.cause (refusal_told c.in-Refused.is c.check_lists-checked.ensures)
+
+pub overflow_add-total : goal.overflow_add-total
+overflow_add-total c =
+    let legal = none_told c.in_default.is c.check_lists-checked.ensures in
+    let at = place c.args.circuit.now c.args.input.now _ _ legal c.depth.ensures.0 c.gates_before-place.ensures in
+    let few = input_fits _ _ legal _ at in
+    omega arith
+
+pub returns-then-buffer-total : goal.returns-then-buffer-total
+returns-then-buffer-total c =
+    let legal = none_told c.in_default.is c.check_lists-checked.ensures in
+    let at = place c.args.circuit.now c.args.input.now _ _ legal c.depth.ensures.0 c.gates_before-place.ensures in
+    left_short _ _ _ legal (omega (arith, c.if-buffer-total.true, input_ends _ _ legal _ at))
+
+pub all_values-values-requires : goal.all_values-values-requires
+all_values-values-requires c =
+    let legal = none_told c.in_default.is c.check_lists-checked.ensures in
+    let at = place c.args.circuit.now c.args.input.now _ _ legal c.depth.ensures.0 c.gates_before-place.ensures in
+    (legal, at)
+
+pub slice_bounds-values-end : goal.slice_bounds-values-end
+slice_bounds-values-end c =
+    let legal = none_told c.in_default.is c.check_lists-checked.ensures in
+    let at = place c.args.circuit.now c.args.input.now _ _ legal c.depth.ensures.0 c.gates_before-place.ensures in
+    let few = input_fits _ _ legal _ at in
+    omega (arith, few, c.all_values-values.ensures.size)
+
+pub slice_bounds-put-end : goal.slice_bounds-put-end
+slice_bounds-put-end c =
+    let legal = none_told c.in_default.is c.check_lists-checked.ensures in
+    let at = place c.args.circuit.now c.args.input.now _ _ legal c.depth.ensures.0 c.gates_before-place.ensures in
+    let few = input_fits _ _ legal _ at in
+    sym (length-take-le _ _ (omega (arith, few, c.all_values-values.ensures.size)))
+
+pub returns : goal.returns
+returns c =
+    let legal = none_told c.in_default.is c.check_lists-checked.ensures in
+    let at = place c.args.circuit.now c.args.input.now _ _ legal c.depth.ensures.0 c.gates_before-place.ensures in
+    let few = input_fits _ _ legal _ at in
+    let buffer = c.args.buffer.now in
+    let total = c.gates_before-place.result + length c.args.input.now in
+    let values = c.all_values-values.result in
+    let done = left_values _ _ buffer total values legal (input_ends _ _ legal _ at) c.if-buffer-total.false c.all_values-values.ensures in
+    let front = length-take-le total values (omega (arith, few, c.all_values-values.ensures.size)) in
+    let put = over_whole (take total values) buffer _ (omega (arith, front, c.if-buffer-total.false)) c.put.ensures in
+    record { answer = done.answer; buffer = put ∙ done.buffer }
