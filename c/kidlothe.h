@@ -1,7 +1,7 @@
 /*
  * Kidlothe: the check of an argued output of a layered arithmetic circuit, and what belongs to it.
  *
- * Link with libkidlothe.a (target/staticlib/, written by `rt staticlib kidlothe`). The library needs nothing
+ * Link with libkidlothe.a (target/staticlib/, written by `tools/build kidlothe`). The library needs nothing
  * else, allocates nothing, keeps no state between calls and may be called from any number of threads.
  *
  * WORDS AND LISTS. A word is a uint32_t. A list is a pointer to its first word and its length in words; a list of
@@ -19,7 +19,7 @@
  *
  * WHAT IS PROMISED. For every value of every argument, each function ends, reads nothing outside the lists,
  * writes nothing but what is said below, and answers as the specification's definition of the operation does:
- * that is proved of each function here, by the contract that stands at it in crates/kidlothe/src/lib.rt. No list
+ * that is proved of each function here, by the contract that stands at it in crates/kidlothe_c/src/lib.rt. No list
  * is wrong to give: a list that is not legal is refused by its number.
  *
  * REFUSALS. A refusal is a number from 1 to 20 (the table below); 0 is none. An operation that refuses leaves

@@ -3,7 +3,7 @@
  * the worked example's, p = 13 and one gate that multiplies two inputs. The honest prover is accepted; one that
  * claims another output is refused at its first message.
  *
- *     rt staticlib kidlothe
+ *     tools/build kidlothe
  *     gcc -std=c99 -Wall -Wextra -o target/session c/session.c target/staticlib/libkidlothe.a && target/session
  */
 #include "kidlothe.h"

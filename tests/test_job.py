@@ -1,5 +1,5 @@
 #!/usr/bin/env python3
-"""Tests of ./job on the examples. They run the built programs; build them first, by ./job or `rt check evaluate transcript verdict`.
+"""Tests of ./job on the examples. They run the built programs; build them first, by ./job or `tools/build evaluate transcript verdict`.
 
 What is expected stands in tests/expected; the transcripts there come from a literal reading of the specification, not from a program of
 this repository.
@@ -176,10 +176,10 @@ class Job(unittest.TestCase):
             self.assertNotEqual(ran.stderr, "")
 
     def test_a_build_that_fails(self):
-        script(self.folder / "rt", "echo not proved\nexit 1")
+        script(self.folder / "rt", "echo not proved >&2\nexit 1")
         for arguments in ([], [WORKED / "circuit.txt", WORKED / "input.txt"]):
             ran = job(*arguments, env=path_with(self.folder))
-            self.assertEqual((ran.stderr, ran.returncode), ("not proved\nrt check failed with exit status 1\n", 3))
+            self.assertEqual((ran.stderr, ran.returncode), ("not proved\ntools/build failed with exit status 1\n", 3))
             self.assertNotIn("released", ran.stdout)
 
     def test_standard_input_of_a_byte_more_than_is_read(self):
@@ -197,14 +197,14 @@ class Job(unittest.TestCase):
             (self.folder / name).parent.mkdir(parents=True, exist_ok=True)
             shutil.copy(ROOT / name, self.folder / name)
         (self.folder / "target" / "bin").mkdir(parents=True)
-        for name, text in (("rt", ""), ("target/bin/evaluate", "echo output 2"), ("target/bin/transcript", "echo claim 2")):
+        for name, text in (("tools/build", ""), ("target/bin/evaluate", "echo output 2"), ("target/bin/transcript", "echo claim 2")):
             script(self.folder / name, text)
         for text, status in (("echo accepted", 0), ("echo refused 16", 1), ("", 3), ("printf accepted", 3), ("echo accepted 2", 3),
                              ("echo Accepted", 3), ("echo refused", 3), ("echo refused 21", 3), ("echo accepted; exit 1", 3),
                              ("echo accepted; echo refused 16", 3), ("echo accepted; kill -9 $$", 3)):
             script(self.folder / "target" / "bin" / "verdict", f"cat > /dev/null\n{text}")
             ran = subprocess.run([self.folder / "job", WORKED / "circuit.txt", WORKED / "input.txt", "--coins", WORKED / "coins.txt"],
-                                 capture_output=True, text=True, env=path_with(self.folder))
+                                 capture_output=True, text=True)
             self.assertEqual(ran.returncode, status, (text, ran))
             self.assertEqual("output 2 is released" in ran.stdout, status == 0, text)
 

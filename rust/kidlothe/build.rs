@@ -1,5 +1,5 @@
-//! Finds the proved library, which `rt staticlib kidlothe` writes to target/staticlib of the repository. Another place
-//! for it is named by KIDLOTHE_LIBRARY_DIR.
+//! Finds the proved library, which `tools/build kidlothe` writes to target/staticlib of the repository. Another place for
+//! it is named by KIDLOTHE_LIBRARY_DIR.
 use std::env;
 use std::path::PathBuf;
 
@@ -12,7 +12,7 @@ fn main() {
     let archive = folder.join("libkidlothe.a");
     println!("cargo:rerun-if-changed={}", archive.display());
     if !archive.exists() {
-        panic!("{} is not there: run `rt staticlib kidlothe` in the repository first", archive.display());
+        panic!("{} is not there: run `tools/build kidlothe` in the repository first", archive.display());
     }
     println!("cargo:rustc-link-search=native={}", folder.display());
     println!("cargo:rustc-link-lib=static=kidlothe");
