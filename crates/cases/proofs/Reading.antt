@@ -1,15 +1,13 @@
 -- Laws of parts that are cut off where the list ends, and of the checksum of what is left of a list.
 -- Assumes nothing.
 use mathlib.Core.Path.{◌≡◌, refl, sym, ap, ◌∙◌}
-use mathlib.Core.List.{List, [], ◌++◌}
-use Prim.Native.Nat.{ℕ, ◌+◌, ◌-◌, ◌*◌, ◌%◌, ◌≤◌, ◌<◌, min}
+use mathlib.Core.List.{List, []}
+use Prim.Native.Nat.{ℕ, ◌+◌, ◌-◌, ◌*◌, ◌%◌, ◌<◌, min}
 use mathlib.Core.Logic.{◌⊎◌, inl, inr}
 use native.Mathlib.Nat.{eq-zero-or-pos}
 use native.Mathlib.Omega.{arith}
-use lib.ListN.{length, get_or, take, drop, length-append, length-drop}
-use lib.Seq.{length-take-le}
+use lib.ListN.{length, get_or, take, drop, length-drop}
 use Rattle.lists.proofs.Parts.{take_most}
-use Rattle.io.specs.Counts.{IsPrefixLen}
 use Rattle.cases.specs.Parts.{between}
 use Rattle.lists.proofs.Steps.{drop_up}
 use Rattle.cases.specs.Checksum.{modulus, checksum_from}
@@ -25,12 +23,6 @@ between_clipped start end from to l e f =
     moved : (to - from ≡ 0) ⊎ (0 < to - from) → between from to l ≡ take (to - from) (drop start l)
     moved (inl none) = ap (λ (n : ℕ). take n (drop from l)) none ∙ sym (ap (λ (n : ℕ). take n (drop start l)) none)
     moved (inr some) = let same : from ≡ start = omega arith in ap (λ (n : ℕ). take (to - from) (drop n l)) same
-
--- what counts elements of a list counts those of the list with more behind it
-pub counts_front : (n : ℕ) (xs ys : List ℕ) → n ≤ length xs → IsPrefixLen n (xs ++ ys)
-counts_front n xs ys h =
-    let short : n ≤ length (xs ++ ys) = simp length-append (omega arith) in
-    (short, sym (length-take-le n (xs ++ ys) short))
 
 -- THE CHECKSUM
 -- the next word goes into the checksum

@@ -2,15 +2,15 @@
 // and buffers as its lines have them. Nothing is required of a case: what would stand past its end is left out, and the line then differs.
 #![tactic(auto)]
 
-ghost use Rattle.std.specs.Prelude.{◌≡◌, ◌<◌, min, length, take};
+ghost use Rattle.std.specs.Prelude.{◌≡◌, ◌<◌, min, length, take, IfOk};
 ghost use Rattle.lists.specs.Buffer.{over};
 ghost use Rattle.refusal.specs.Number.{number_of};
 ghost use Rattle.io.specs.Counts.{IsPrefixLen};
 ghost use Rattle.cases.specs.Parts.{between, list_at};
 ghost use Rattle.cases.specs.Checksum.{checksum_of};
 
-use libc::{STDIN_FILENO, STDOUT_FILENO};
 use refusal::Cause;
+use std::io::{Read, Result, Write};
 
 // A buffer of at most so many words is printed whole.
 const MOST_PRINTED: usize = 24;
@@ -18,15 +18,14 @@ const MOST_PRINTED: usize = 24;
 // The modulus of the checksum, a prime.
 const MODULUS: u64 = 100000000000000003;
 
-// Reads the next case of standard input, without its length, to the front of a buffer, and answers how many bytes it has: 0 at the
-// input's end.
-pub fn next(buffer: &mut [u8]) -> usize
-    ensures { IsPrefixLen result buffer.new }
+// Reads the next case of the input, without its length, to the front of a buffer, and answers how many bytes it has: 0 at the input's end.
+pub fn next<R: Read>(input: &mut R, buffer: &mut [u8]) -> Result<usize>
+    ensures { IfOk result (λ n. IsPrefixLen n buffer.new) }
 {
     let mut size = [0u8; 4];
-    io::read_full(STDIN_FILENO, &mut size);
+    printing::read_full(input, &mut size)?;
     let count = lists::least(xdr::word_at(&size, 0) as usize, buffer.len());
-    io::read_full(STDIN_FILENO, &mut buffer[..count])
+    printing::read_full(input, &mut buffer[..count])
 }
 
 // The bytes from one place to another.
@@ -80,47 +79,48 @@ fn long(word: u32) -> u64
     word as u64
 }
 
-fn print_labelled(label: &[u8], number: u64) {
-    io::write_all(STDOUT_FILENO, label);
-    io::print_decimal(STDOUT_FILENO, number);
+// Prints a label and a number.
+pub fn print_labelled<W: Write>(output: &mut W, label: &[u8], number: u64) -> Result<()> {
+    output.write_all(label)?;
+    write!(output, "{number}")
 }
 
 // Prints numbers, each after a space, and answers how many.
-pub fn print_numbers(numbers: &[u32]) -> usize
-    ensures { result ≡ length numbers.now }
+pub fn print_numbers<W: Write>(output: &mut W, numbers: &[u32]) -> Result<usize>
+    ensures { IfOk result (λ n. n ≡ length numbers.now) }
 {
     let mut printed = 0;
     while printed < numbers.len() {
-        print_labelled(b" ", long(numbers[printed]));
+        print_labelled(output, b" ", long(numbers[printed]))?;
         printed += 1;
     }
-    printed
+    Ok(printed)
 }
 
 // Prints a refusal, and answers its number.
-pub fn print_refused(cause: Cause) -> u32
-    ensures { result ≡ number_of cause }
+pub fn print_refused<W: Write>(output: &mut W, cause: Cause) -> Result<u32>
+    ensures { IfOk result (λ n. n ≡ number_of cause) }
 {
     let number = refusal::number(cause);
-    print_labelled(b"refused ", long(number));
-    number
+    print_labelled(output, b"refused ", long(number))?;
+    Ok(number)
 }
 
 // Prints what a buffer holds, and answers its checksum: all words of a short one, and of a long one the length, the first and the last
 // word and the checksum.
-pub fn print_buffer(buffer: &[u32]) -> u64
-    ensures { result ≡ checksum_of buffer.now }
+pub fn print_buffer<W: Write>(output: &mut W, buffer: &[u32]) -> Result<u64>
+    ensures { IfOk result (λ n. n ≡ checksum_of buffer.now) }
 {
     let sum = checksum(buffer);
     let count = buffer.len();
     if count <= MOST_PRINTED {
-        io::write_all(STDOUT_FILENO, b" buffer");
-        print_numbers(buffer);
-        return sum;
+        output.write_all(b" buffer")?;
+        print_numbers(output, buffer)?;
+        return Ok(sum);
     }
-    print_labelled(b" buffer of ", count as u64);
-    print_labelled(b" from ", long(buffer[0]));
-    print_labelled(b" to ", long(buffer[count - 1]));
-    print_labelled(b" checksum ", sum);
-    sum
+    print_labelled(output, b" buffer of ", count as u64)?;
+    print_labelled(output, b" from ", long(buffer[0]))?;
+    print_labelled(output, b" to ", long(buffer[count - 1]))?;
+    print_labelled(output, b" checksum ", sum)?;
+    Ok(sum)
 }
