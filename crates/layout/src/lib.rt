@@ -45,7 +45,8 @@ pub fn exponents(circuit: &[u32]) -> &[u32]
     &circuit[start..end]
 }
 
-// The width exponent of a layer, 0 for one that the list has not.
+// The width exponent of a layer, 0 for one that the list has not: a word behind the header, and there is none behind the last.
+#[tactic(auto, using(crate::proofs::Readers::exponent_first, crate::proofs::Readers::exponent_there, crate::proofs::Readers::exponent_past))]
 pub fn exponent(circuit: &[u32], layer: usize) -> u32
     ensures { result ≡ exponent_at circuit.now layer }
 {

@@ -23,7 +23,8 @@ pub fn all_below(words: &[u32], p: u32) -> bool
     true
 }
 
-// One gate above a layer of `next` gates.
+// One gate above a layer of `next` gates. Each return is one case of `gate_cause`.
+#[tactic(auto, using(circuit::proofs::Legal::gate_kind, circuit::proofs::Legal::gate_right, circuit::proofs::Legal::gate_order, circuit::proofs::Legal::gate_used, circuit::proofs::Legal::gate_wired_empty, circuit::proofs::Legal::gate_empty))]
 fn check_gate(kind: u32, left: u32, right: u32, next: usize) -> Checked
     ensures { cause_of result ≡ gate_cause next (gate kind left right) }
 {
