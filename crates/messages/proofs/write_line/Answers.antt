@@ -1,0 +1,27 @@
+-- `write_line` meets its contract: what stands at the round gives the two points of the line.
+use Prim.Native.Nat.{ℕ, ◌+◌, ◌≤◌}
+use mathlib.Core.Path.{◌≡◌, sym, ap, ◌∙◌, subst}
+use lib.ListN.{length, take}
+use Rattle.circuit.proofs.Layers.{prime_modulus}
+use Rattle.protocol.specs.Rounds.{place}
+use Rattle.protocol.specs.Judge.{message_length}
+use Rattle.standing.proofs.Lengths.{length_of_line}
+use Rattle.messages.proofs.Rows.{lined, written, line_words}
+use Rattle.messages.proofs.write_line.Goals as goal
+
+pub returns : goal.returns
+returns c il h =
+    let l = c.args.circuit.now in
+    let past = c.args.past.now in
+    let vs = c.args.values.now in
+    let st = c.at_round-s.result in
+    let t = c.at_round-s.ensures.stands h.there in
+    let r = place c.args.layer c.args.round in
+    let n : st.own + 1 ≡ message_length l r = ap (λ (k : ℕ). k + 1) t.own ∙ length_of_line l r il in
+    let f = prime_modulus l h.there.legal _ _ c.prime.ensures c.of-f.ensures in
+    let words = c.line_message-words in
+    let said =
+    ap (take (st.own + 1)) (words.ensures ∙ ap (λ (p : ℕ). lined p vs st) f)
+    ∙ line_words l c.args.layer c.args.round past vs c.args.buffer.now h st t il (st.own + 1) n in
+    let room = subst (λ (i : ℕ). i ≤ length c.args.buffer.now) (sym n) h.room in
+    written words.result c.args.buffer.now _ _ (st.own + 1) room said c.put.ensures

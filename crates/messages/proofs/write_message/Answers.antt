@@ -1,0 +1,41 @@
+-- `write_message` meets its contract: the part of all values that it lends on is the layer's.
+use Prim.Native.Nat.{ℕ}
+use mathlib.Core.List.{List}
+use mathlib.Core.Path.{sym, ap, ◌∙◌}
+use native.Mathlib.Omega.{arith}
+use Rattle.lists.specs.Buffer.{over}
+use Rattle.circuit.specs.Circuit.{width_of}
+use Rattle.protocol.specs.Rounds.{place}
+use Rattle.protocol.specs.Prove.{message_from}
+use Rattle.messages.proofs.Parts.{part_small, part_inside, part_values, part_writable}
+use borrow.Author.Rules.{rules}
+use Rattle.messages.proofs.write_message.Goals as goal
+
+pub overflow_add-to : goal.overflow_add-to
+overflow_add-to c = let few = part_small _ _ _ _ _ c.gates_before-from.ensures c.width.ensures in search rules
+
+pub returns-then-values-to : goal.returns-then-values-to
+returns-then-values-to c h =
+    let wide = c.width.ensures ∙ ap width_of c.exponent.ensures in
+    let inside = part_inside _ _ _ _ _ _ h _ _ c.gates_before-from.ensures wide in
+    absurd (omega (arith, inside, c.if-values-to.true))
+
+pub returns-then-is_line : goal.returns-then-is_line
+returns-then-is_line c h =
+    let a = c.args in
+    let circuit = a.circuit.now in
+    let before = c.gates_before-from.ensures in
+    let wide = c.width.ensures ∙ ap width_of c.exponent.ensures in
+    c.write_line.ensures (sym c.is_line.ensures ∙ search rules) (part_writable _ _ _ _ _ _ h _ _ before wide)
+    ∙ ap (λ (vs : List ℕ). over (message_from circuit vs (place a.layer a.round) a.past.now) a.buffer.now)
+    (part_values _ _ _ _ _ _ h _ _ before wide)
+
+pub returns : goal.returns
+returns c h =
+    let a = c.args in
+    let circuit = a.circuit.now in
+    let before = c.gates_before-from.ensures in
+    let wide = c.width.ensures ∙ ap width_of c.exponent.ensures in
+    c.write_sum.ensures (sym c.is_line.ensures ∙ search rules) (part_writable _ _ _ _ _ _ h _ _ before wide)
+    ∙ ap (λ (vs : List ℕ). over (message_from circuit vs (place a.layer a.round) a.past.now) a.buffer.now)
+    (part_values _ _ _ _ _ _ h _ _ before wide)

@@ -1,0 +1,20 @@
+-- `write_sum` meets its contract: what stands at the round gives the gates above, the standing point and the coordinates fixed so far, from
+-- which one pass over the gates makes the honest message.
+use Prim.Native.Nat.{ℕ}
+use mathlib.Core.Path.{ap, ◌∙◌}
+use Rattle.circuit.proofs.Layers.{prime_modulus}
+use Rattle.messages.proofs.Rows.{summed, sum_words, sum_written}
+use Rattle.messages.proofs.write_sum.Goals as goal
+
+pub returns : goal.returns
+returns c nl h =
+    let a = c.args in
+    let vs = a.values.now in
+    let above = c.gates_above.result.now in
+    let st = c.at_round-s.result in
+    let t = c.at_round-s.ensures.stands h.there in
+    let f = prime_modulus a.circuit.now h.there.legal _ _ c.prime.ensures c.of-f.ensures in
+    let said =
+    c.sum_message-words.ensures ∙ ap (λ (p : ℕ). summed p above vs a.round st) f
+    ∙ sum_words _ a.layer a.round a.past.now vs a.buffer.now h st t nl above c.gates_above.ensures in
+    sum_written _ a.layer a.round a.past.now vs a.buffer.now h c.sum_message-words.result _ said c.put.ensures
