@@ -2,7 +2,9 @@
 #![tactic(auto)]
 
 use programs::Program;
+use std::io;
 
-fn main() {
-    programs::run(Program::Evaluate);
+fn main(rt: HostRuntime) -> io::Result<()> {
+    programs::run(Program::Evaluate, &mut rt.stdin(), &mut rt.stdout())?;
+    Ok(())
 }

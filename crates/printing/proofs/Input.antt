@@ -1,14 +1,15 @@
 -- The arrays that a program reads: bytes that may be read hold no more words than the array, so that reading never lacks room.
 -- Assumes nothing.
-use Prim.Native.Nat.{ℕ, ◌*◌, ◌≤◌, ◌<◌}
+use Prim.Native.Nat.{ℕ, ◌+◌, ◌*◌, ◌≤◌, ◌<◌}
 use mathlib.Core.Path.{◌≡◌, refl, sym}
 use mathlib.Core.Bool.{Bool, true, false, cond, ◌&&◌}
 use mathlib.Core.Option.{none}
 use mathlib.Core.List.{List}
 use native.Mathlib.Omega.{arith}
 use lib.Dec.{leb}
-use lib.ListN.{length}
-use borrow.Author.Tests.{le-leb, lt-leb, leb-true}
+use lib.ListN.{length, take}
+use lib.Seq.{take_all, length-take-le}
+use borrow.Author.Tests.{le-leb, lt-leb, leb-true, leb-false}
 use Rattle.lists.specs.Buffer.{over}
 use Rattle.xdr.specs.Read.{arrays, called, refused, counts_of, words_of, read_answer, read_buffer}
 use Rattle.xdr.proofs.Found.{words_few}
@@ -44,3 +45,16 @@ module _ (n : ℕ) (bytes buffer : List ℕ) where
   read_short h room =
       let whole = read_whole n bytes buffer (omega (arith, few_words)) in
       rw (le-leb (length bytes) max_bytes h) (sym whole.0, sym whole.1)
+
+-- of bytes that are too many, none behind those that are read counts
+pub given_front : (n : ℕ) (bytes : List ℕ) → given n (take (max_bytes + 1) bytes) ≡ given n bytes
+unfolding given
+given_front n bytes = go (leb (length bytes) max_bytes) refl
+  where
+    go : (b : Bool) → leb (length bytes) max_bytes ≡ b
+        → cond (leb (length (take (max_bytes + 1) bytes)) max_bytes) (called n (take (max_bytes + 1) bytes)) none ≡ cond (leb (length bytes) max_bytes) (called n bytes) none
+    go true e = rw (take_all (max_bytes + 1) bytes (omega (arith, leb-true (length bytes) max_bytes e)))
+    go false e =
+        let long : max_bytes < length bytes = leb-false (length bytes) max_bytes e in
+        let size : length (take (max_bytes + 1) bytes) ≡ max_bytes + 1 = length-take-le (max_bytes + 1) bytes (omega (arith, long)) in
+        rw (lt-leb (length (take (max_bytes + 1) bytes)) max_bytes (omega (arith, size)), lt-leb (length bytes) max_bytes long)

@@ -5,9 +5,13 @@ use mathlib.Core.Path.{◌≡◌, refl, ap, ◌∙◌}
 use mathlib.Core.List.{List, [], ◌∷◌}
 use native.Mathlib.Omega.{arith}
 use lib.ListN.{length, take, drop, get_or}
+use Rattle.std.proofs.Common.{subst}
+use Rattle.std.specs.Prelude.{Option, Result, Ok, Err, None, Some, OnOk, IfSome}
+use Rattle.std.specs.Io.KnownBytes.{Appends}
 use Rattle.xdr.specs.Read.{refused, counts_of}
-use Rattle.printing.specs.Limits.{max_line}
+use Rattle.printing.specs.Limits.{max_bytes, max_line}
 use Rattle.printing.specs.Input.{given}
+use Rattle.printing.proofs.Input.{given_front}
 use Rattle.printing.specs.Printed.{refused_text, printed}
 use Rattle.printing.proofs.Parts.{Parts, refused_unfit, printed_lists}
 use Rattle.printing.proofs.Lengths.{printed_short}
@@ -65,3 +69,18 @@ pub longest_fits : (program : Program) → longest program ≤ max_text
 longest_fits Transcript = omega arith
 longest_fits Verdict = omega arith
 longest_fits Evaluate = omega arith
+
+-- THE INPUT
+-- of bytes that are too many a program prints the same as of one byte more than may be read
+text_front : (program : Program) (xs : List ℕ) → program_text program (take (max_bytes + 1) xs) ≡ program_text program xs
+unfolding program_text
+text_front program xs = ap (printed (text_of program)) (given_front (arrays_of program) xs)
+
+-- a text that was printed for the bytes that were read of an input
+pub text_known : {T E : Type 0} (r : Result T E) (input : Option (List ℕ)) (before after : Option (List ℕ)) (program : Program) (bytes : List ℕ)
+    → IfSome input (λ xs. bytes ≡ take (max_bytes + 1) xs) → OnOk r (Appends before after (program_text program bytes))
+    → OnOk r (IfSome input (λ xs. Appends before after (program_text program xs)))
+text_known (Err e) input before after program bytes front printed = tt
+text_known (Ok x) None before after program bytes front printed = tt
+text_known (Ok x) (Some xs) before after program bytes front printed =
+    subst (Appends before after) (ap (program_text program) front ∙ text_front program xs) printed

@@ -1,12 +1,14 @@
-// The programs, from the bytes on standard input to what is printed. The text is written to a buffer first, since no promise can speak of
-// standard output.
+// The programs, from the bytes of an input to what is printed. The text is written to a buffer first, and then handed to the output at once.
+// The input and the output are the caller's: where their bytes are known, the promises say what was printed for what was read, and no promise
+// can speak of those of standard input and standard output.
 #![tactic(auto)]
 
-ghost use Rattle.std.specs.Prelude.{◌≡◌, [], ◌∷◌, ◌+◌, ◌≤◌, length, take, drop};
+ghost use Rattle.std.specs.Prelude.{◌≡◌, [], ◌∷◌, ◌+◌, ◌≤◌, length, take, drop, IfOk, OnOk, IfSome};
+ghost use Rattle.std.specs.Io.KnownBytes.{Appends};
 ghost use Rattle.text.specs.Wrote.{Wrote};
 ghost use Rattle.programs.specs.Programs.{arrays_of, text_of, program_text, longest};
 
-use libc::STDOUT_FILENO;
+use std::io::{Read, Result, Write};
 use xdr::Arrays;
 
 // The specification's program, and one for each of the operations Check and Evaluate.
@@ -107,20 +109,25 @@ fn write_text(program: Program, bytes: &[u8], text: &mut [u8]) -> usize
 }
 
 // Prints it, and answers how many bytes that took.
-pub fn print_text(program: Program, bytes: &[u8]) -> usize
-    ensures { (result ≡ length (program_text program bytes.now)) × (result ≤ longest program) }
+pub fn print_text<W: Write>(program: Program, bytes: &[u8], output: &mut W) -> Result<usize>
+    ensures count { IfOk result (λ n. n ≡ length (program_text program bytes.now)) }
+    ensures short { IfOk result (λ n. n ≤ longest program) }
+    ensures printed { OnOk result (Appends (W.contents output.old) (W.contents output.new)
+        (program_text program bytes.now)) }
 {
     let mut text = [0u8; transcript_text::MAX_TEXT];
     let count = write_text(program, bytes, &mut text);
-    io::write_all(STDOUT_FILENO, &text[..count]);
-    count
+    output.write_all(&text[..count])?;
+    Ok(count)
 }
 
-// Prints it for the bytes on standard input.
-pub fn run(program: Program) -> usize
-    ensures { result ≤ longest program }
+// Prints it for the bytes of an input.
+pub fn run<R: Read, W: Write>(program: Program, input: &mut R, output: &mut W) -> Result<usize>
+    ensures short { IfOk result (λ n. n ≤ longest program) }
+    ensures printed { OnOk result (IfSome (R.remaining input.old) (λ xs.
+        Appends (W.contents output.old) (W.contents output.new) (program_text program xs))) }
 {
     let mut bytes = [0u8; printing::MAX_BYTES + 1];
-    let count = printing::read_input(&mut bytes);
-    print_text(program, &bytes[..count])
+    let count = printing::read_input(input, &mut bytes)?;
+    print_text(program, &bytes[..count], output)
 }

@@ -3,7 +3,9 @@
 #![tactic(auto)]
 
 use programs::Program;
+use std::io;
 
-fn main() {
-    programs::run(Program::Transcript);
+fn main(rt: HostRuntime) -> io::Result<()> {
+    programs::run(Program::Transcript, &mut rt.stdin(), &mut rt.stdout())?;
+    Ok(())
 }

@@ -3,7 +3,9 @@
 #![tactic(auto)]
 
 use programs::Program;
+use std::io;
 
-fn main() {
-    programs::run(Program::Verdict);
+fn main(rt: HostRuntime) -> io::Result<()> {
+    programs::run(Program::Verdict, &mut rt.stdin(), &mut rt.stdout())?;
+    Ok(())
 }
