@@ -48,6 +48,10 @@ module _ (c input cs first : List ℕ) where
     pub before : BeforeRound layer round n at buffer
     pub more : round < 2 * exponent_at c layer + 1
 
+  pub is_due : {layer round n at end : ℕ} {buffer : List ℕ} → Provable c input cs first → BeforeRound layer round n at buffer
+      → end ≡ 2 * exponent_at c layer + 1 → round < end → Due layer round n at buffer
+  is_due {round = round} h b e less = record { provable = h; before = b; more = subst (λ (i : ℕ). round < i) e less }
+
   module _ (h : Provable c input cs first) where
     legal : LegalCircuit c
     legal = (legal_lists c input h.given.lists).circuit
