@@ -9,7 +9,7 @@ use lib.ListN.{length, take, drop, get_or, take-append-drop}
 use lib.Seq.{take-suc, take_all, length-take-le}
 use borrow.Author.Tests.{eqb-true}
 use Rattle.refusal.specs.Number.{number_of}
-use Rattle.refusal.specs.Order.{need, first}
+use Rattle.refusal.specs.Order.{need}
 use Rattle.refusal.specs.declared.Cause.{Cause}
 use Rattle.refusal.specs.declared.Cause.TheVariants.{RecordUnfit}
 use Rattle.refusal.proofs.Order.{refused_by, refused_first}
