@@ -29,6 +29,9 @@ pub record Claimed : Type 0 where
   pub messages : List ℕ
   pub coins : List ℕ
 
+abbrev pub claimed : List ℕ → List ℕ → ℕ → List ℕ → List ℕ → Claimed
+claimed c input first ms cs = record { circuit = c; input = input; first = first; messages = ms; coins = cs }
+
 module _ (k : Claimed) where
   open k use {circuit as c, input, first as y, messages as ms, coins as cs}
 
@@ -50,6 +53,11 @@ module _ (k : Claimed) where
     pub walkable : Walkable c input cs ms
     pub before : BeforeRound layer round n at claim
     pub more : round < 2 * exponent_at c layer + 1
+
+  pub due : Walkable c input cs ms → {layer round n at claim : ℕ} → BeforeRound layer round n at claim → {end : ℕ}
+      → end ≡ 2 * exponent_at c layer + 1 → round < end → Due layer round n at claim
+  due h {layer} {round} {n} {at} {claim} before {end} e more =
+      record { walkable = h; before = before; more = subst (λ (i : ℕ). round < i) e more }
 
   legal : Walkable c input cs ms → LegalCircuit c
   legal h = (legal_lists c input h.given.lists).circuit

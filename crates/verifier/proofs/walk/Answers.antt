@@ -1,0 +1,100 @@
+-- `walk` meets its contract: what is left before a layer, or before a round, is the whole walk; the loops end where nothing is left or a
+-- message is refused.
+use Rattle.std.proofs.Common.{ℕ, ◌+◌, ◌-◌, ◌*◌, ◌≤◌, take, drop, get_or, length-take-le, sym, ap, ◌∙◌, subst, rules, arith}
+use Rattle.algebra.specs.Numbers.{words as words_of}
+use Rattle.algebra.specs.Polynomial.{value_at}
+use Rattle.refusal.proofs.Told.{refusal_told, none_told}
+use Rattle.circuit.specs.Circuit.{depth as depth_of}
+use Rattle.circuit.proofs.Layers.{prime_modulus}
+use Rattle.circuit.proofs.Loading.{legal_lists}
+use Rattle.standing.proofs.Loops.{first_layer, layer_starts, layer_ends}
+use Rattle.verifier.proofs.Walking.{due, walk_starts, walk_ends, coin_there, words_there, round_place, round_passes, round_refuses}
+use Rattle.verifier.proofs.walk.Goals as goal
+
+pub walk-init : goal.walk-init
+walk-init c =
+    let legal = (legal_lists _ _ c.requires.given.lists).circuit in
+    walk_starts _ c.requires _ (c.coins_before-n.ensures (first_layer _ legal))
+
+pub finish-requires : goal.finish-requires
+finish-requires c = c.requires.given
+
+pub loop-round-init : goal.loop-round-init
+loop-round-init c =
+    let legal = (legal_lists _ _ c.requires.given.lists).circuit in
+    let low : c.walk.layer ≤ depth_of c.args.circuit.now = omega (arith, c.if-depth-layer.false, c.depth-depth.ensures.0) in
+    (ap (λ (k : ℕ). 2 * k + 1) c.exponent.ensures, layer_starts _ legal c.walk.invariant low)
+
+pub overflow_add-end : goal.overflow_add-end
+overflow_add-end c =
+    let d = due _ c.requires c.loop-round.invariant.1 c.loop-round.invariant.0 c.loop-round-test.true in
+    let there = words_there _ d in
+    omega (arith, c.message_length.ensures)
+
+pub offset_bounds-messages-at : goal.offset_bounds-messages-at
+offset_bounds-messages-at c =
+    let d = due _ c.requires c.loop-round.invariant.1 c.loop-round.invariant.0 c.loop-round-test.true in
+    let there = words_there _ d in
+    search rules
+
+pub slice_bounds-message-end : goal.slice_bounds-message-end
+slice_bounds-message-end c =
+    let d = due _ c.requires c.loop-round.invariant.1 c.loop-round.invariant.0 c.loop-round-test.true in
+    let there = words_there _ d in
+    omega (arith, c.message_length.ensures)
+
+pub slice_bounds-judge-end : goal.slice_bounds-judge-end
+slice_bounds-judge-end c =
+    let d = due _ c.requires c.loop-round.invariant.1 c.loop-round.invariant.0 c.loop-round-test.true in
+    let there = coin_there _ d in
+    sym (length-take-le _ _ (omega arith))
+
+pub bounds-coins-n : goal.bounds-coins-n
+bounds-coins-n c =
+    let d = due _ c.requires c.loop-round.invariant.1 c.loop-round.invariant.0 c.loop-round-test.true in
+    let there = coin_there _ d in
+    omega arith
+
+pub overflow_add-n : goal.overflow_add-n
+overflow_add-n c =
+    let d = due _ c.requires c.loop-round.invariant.1 c.loop-round.invariant.0 c.loop-round-test.true in
+    let there = coin_there _ d in
+    search rules
+
+pub loop-round-preserved : goal.loop-round-preserved
+loop-round-preserved c =
+    let r = c.loop-round in
+    let d = due _ c.requires r.invariant.1 r.invariant.0 c.loop-round-test.true in
+    let wide = c.message_length in
+    let legal = (legal_lists _ _ c.requires.given.lists).circuit in
+    let m = take (r.at + wide.result - r.at) (drop r.at c.args.messages.now) in
+    let f = prime_modulus _ legal _ _ c.prime.ensures c.of-f.ensures in
+    let passed = none_told c.in_default.is (c.judge-judged.ensures (round_place _ d)) in (
+      r.invariant.0,
+      round_passes _ d wide.result wide.ensures c.value_at-claim.result passed
+          (c.value_at-claim.ensures ∙ ap (λ (p : ℕ). value_at (words_of p) m (get_or c.args.coins.now r.n 0)) f),
+    )
+
+pub overflow_add-layer : goal.overflow_add-layer
+overflow_add-layer c =
+    let last = c.loop-round.invariant.1.last in
+    let low = (legal_lists _ _ c.requires.given.lists).circuit.sized.headed.shallow in
+    omega arith
+
+pub walk-smaller : goal.walk-smaller
+walk-smaller c = let last = c.loop-round.invariant.1.last in search rules
+
+pub walk-preserved : goal.walk-preserved
+walk-preserved c =
+    let legal = (legal_lists _ _ c.requires.given.lists).circuit in
+    layer_ends _ legal c.loop-round.invariant.1 (subst (λ (i : ℕ). i ≤ c.loop-round.round) c.loop-round.invariant.0 c.loop-round-test.false)
+
+pub returns-then-depth-layer : goal.returns-then-depth-layer
+returns-then-depth-layer c =
+    c.finish.ensures ∙ walk_ends _ c.requires c.walk.invariant (omega (arith, c.if-depth-layer.true, c.depth-depth.ensures.0))
+
+pub returns-in-Refused : goal.returns-in-Refused
+returns-in-Refused c =
+    let d = due _ c.requires c.loop-round.invariant.1 c.loop-round.invariant.0 c.loop-round-test.true in
+    let wide = c.message_length in
+    round_refuses _ d wide.result wide.ensures c.in-Refused.cause (refusal_told c.in-Refused.is (c.judge-judged.ensures (round_place _ d)))
