@@ -1,7 +1,7 @@
 -- The lines of all rounds: those written and those of the rounds left are the whole, before each layer and before each round.
 -- Assumes nothing.
 use Prim.Native.Nat.{ℕ, ◌+◌, ◌-◌, ◌*◌, ◌≤◌, ◌<◌}
-use mathlib.Core.Path.{◌≡◌, refl, sym, ap, ap₂, ◌∙◌}
+use mathlib.Core.Path.{◌≡◌, refl, sym, ap, ap₂, ◌∙◌, subst}
 use mathlib.Core.List.{List, [], ◌∷◌, ◌++◌, map, append_assoc, append-nil}
 use native.Mathlib.Nat.{zero-add}
 use native.Mathlib.Omega.{arith}
@@ -43,6 +43,10 @@ module _ (c ms before : List ℕ) where
     pub legal : LegalCircuit c
     pub here : BeforeRound text at to layer round
     pub more : round < 2 * exponent_at c layer + 1
+
+  pub is_due : {text : List ℕ} {at to layer round end : ℕ} → LegalCircuit c → BeforeRound text at to layer round
+      → end ≡ 2 * exponent_at c layer + 1 → round < end → Due text at to layer round
+  is_due {round = round} legal b e less = record { legal = legal; here = b; more = subst (λ (i : ℕ). round < i) e less }
 
   module _ (legal : LegalCircuit c) where
     pub lines_start : length ms ≡ message_words c → BeforeLayer before 0 0 1

@@ -1,0 +1,42 @@
+-- `write_lists` meets its contract: the prover's words are the transcript, or its refusal is the lists'.
+use mathlib.Core.Path.{sym}
+use native.Mathlib.Omega.{arith}
+use lib.Seq.{length-take-le}
+use Rattle.refusal.proofs.Told.{told}
+use Rattle.prover.specs.Answers.{proved_of}
+use Rattle.text.proofs.Writing.{wrote_as}
+use Rattle.transcript_text.proofs.Answers.{printed_refused, printed_proved}
+use Rattle.transcript_text.proofs.write_lists.Goals as goal
+
+pub slice_bounds-messages-end : goal.slice_bounds-messages-end
+slice_bounds-messages-end c =
+    let a = c.args in
+    let call = c.prove-proved in
+    let w = printed_proved a.circuit.now a.input.now a.coins.now _ (omega arith) _ _ _ (told proved_of c.in-Written.is call.ensures.answer) call.ensures.buffer in
+    w.inside
+
+pub slice_bounds-write_proof-end : goal.slice_bounds-write_proof-end
+slice_bounds-write_proof-end c =
+    let a = c.args in
+    let call = c.prove-proved in
+    let w = printed_proved a.circuit.now a.input.now a.coins.now _ (omega arith) _ _ _ (told proved_of c.in-Written.is call.ensures.answer) call.ensures.buffer in
+    sym (length-take-le _ _ w.inside)
+
+pub write_proof-requires : goal.write_proof-requires
+write_proof-requires c =
+    let a = c.args in
+    let call = c.prove-proved in
+    let w = printed_proved a.circuit.now a.input.now a.coins.now _ (omega arith) _ _ _ (told proved_of c.in-Written.is call.ensures.answer) call.ensures.buffer in
+    (w.legal, w.words)
+
+pub returns-in-Refused : goal.returns-in-Refused
+returns-in-Refused c =
+    wrote_as _ _ _ _ c.write_refused.ensures _
+    (printed_refused _ _ _ _ (omega arith) _ (told proved_of c.in-Refused.is c.prove-proved.ensures.answer))
+
+pub returns-in-Written : goal.returns-in-Written
+returns-in-Written c =
+    let a = c.args in
+    let call = c.prove-proved in
+    let w = printed_proved a.circuit.now a.input.now a.coins.now _ (omega arith) _ _ _ (told proved_of c.in-Written.is call.ensures.answer) call.ensures.buffer in
+    wrote_as _ _ _ _ c.write_proof.ensures _ w.text
