@@ -1,32 +1,34 @@
 // Cases of load and evaluate.
 use crate::MAX_WORDS;
 use evaluation::Evaluated;
-use libc::STDOUT_FILENO;
 use refusal::Checked;
+use std::io::{Result, Write};
 
-pub fn load(lists: &[u32]) {
+pub fn load<W: Write>(output: &mut W, lists: &[u32]) -> Result<()> {
     match legality::load(cases::list(lists, 0)) {
         Checked::Legal => {
-            io::write_all(STDOUT_FILENO, b"legal");
+            output.write_all(b"legal")?;
         }
         Checked::Refused(cause) => {
-            cases::print_refused(cause);
+            cases::print_refused(output, cause)?;
         }
     }
+    Ok(())
 }
 
-pub fn evaluate(lists: &[u32]) {
+pub fn evaluate<W: Write>(output: &mut W, lists: &[u32]) -> Result<()> {
     let mut buffer = [0u32; MAX_WORDS];
     let count = cases::copy(cases::list(lists, 2), &mut buffer);
     let lent = &mut buffer[..count];
     match evaluation::evaluate(cases::list(lists, 0), cases::list(lists, 1), lent) {
-        Evaluated::Output(output) => {
-            io::write_all(STDOUT_FILENO, b"value");
-            cases::print_numbers(&[output]);
+        Evaluated::Output(value) => {
+            output.write_all(b"value")?;
+            cases::print_numbers(output, &[value])?;
         }
         Evaluated::Refused(cause) => {
-            cases::print_refused(cause);
+            cases::print_refused(output, cause)?;
         }
     }
-    cases::print_buffer(lent);
+    cases::print_buffer(output, lent)?;
+    Ok(())
 }

@@ -4,8 +4,8 @@
 // before them.
 ghost use Rattle.std.specs.Prelude.{◌≤◌};
 
-use libc::STDOUT_FILENO;
 use session::{Opening, Verdict};
+use std::io::{Result, Write};
 use verifier::Outcome;
 
 // Whose messages are counted.
@@ -120,25 +120,25 @@ fn stepped(circuit: &[u32], input: &[u32], output: u32, coins: &[u32], messages:
     }
 }
 
-fn print_accepted(by_check: u32, by_session: u32) {
-    io::write_all(STDOUT_FILENO, b"accepted on");
-    cases::print_numbers(&[by_check]);
-    io::write_all(STDOUT_FILENO, b" by check,");
-    cases::print_numbers(&[by_session]);
-    io::write_all(STDOUT_FILENO, b" by session");
+fn print_accepted<W: Write>(output: &mut W, by_check: u32, by_session: u32) -> Result<()> {
+    output.write_all(b"accepted on")?;
+    cases::print_numbers(output, &[by_check])?;
+    output.write_all(b" by check,")?;
+    cases::print_numbers(output, &[by_session])?;
+    output.write_all(b" by session")
 }
 
-pub fn count(whose: Messages, lists: &[u32]) {
+pub fn count<W: Write>(output: &mut W, whose: Messages, lists: &[u32]) -> Result<()> {
     let circuit = cases::list(lists, 0);
     let input = cases::list(lists, 1);
-    let output = lists::word(cases::list(lists, 2), 0);
+    let value = lists::word(cases::list(lists, 2), 0);
     let mut by_check = 0;
     let mut by_session = 0;
     for number in 0..ALL_LISTS {
         let coins = coins_of(number);
         let messages = messages_of(whose, circuit, input, cases::list(lists, 3), number);
-        by_check += checked(circuit, input, output, &coins, &messages);
-        by_session += stepped(circuit, input, output, &coins, &messages);
+        by_check += checked(circuit, input, value, &coins, &messages);
+        by_session += stepped(circuit, input, value, &coins, &messages);
     }
-    print_accepted(by_check, by_session);
+    print_accepted(output, by_check, by_session)
 }

@@ -21,8 +21,8 @@ mod provers;
 mod verdicts;
 
 use counts::Messages;
-use libc::STDOUT_FILENO;
 use programs::Program;
+use std::io::{Result, Write};
 use xdr::Arrays;
 
 const LOAD: u32 = 1;
@@ -63,7 +63,7 @@ pub const MAX_WORDS: usize = MAX_BYTES / 4;
 // Where the note of a case starts.
 const NOTE: usize = 12;
 
-fn read(bytes: &[u8], lists: &[u32]) {
+fn read<W: Write>(output: &mut W, bytes: &[u8], lists: &[u32]) -> Result<()> {
     let mut buffer = [0u32; MAX_WORDS];
     let count = cases::copy(cases::list(lists, 1), &mut buffer);
     let lent = &mut buffer[..count];
@@ -74,74 +74,80 @@ fn read(bytes: &[u8], lists: &[u32]) {
             third,
             fourth,
         } => {
-            io::write_all(STDOUT_FILENO, b"counts");
-            cases::print_numbers(&[first, second, third, fourth]);
+            output.write_all(b"counts")?;
+            cases::print_numbers(output, &[first, second, third, fourth])?;
         }
         Arrays::Refused(cause) => {
-            cases::print_refused(cause);
+            cases::print_refused(output, cause)?;
         }
     }
-    cases::print_buffer(lent);
+    cases::print_buffer(output, lent)?;
+    Ok(())
 }
 
 // The line of an operation: what it answers.
-fn operation(number: u32, bytes: &[u8], lists: &[u32]) {
+fn operation<W: Write>(output: &mut W, number: u32, bytes: &[u8], lists: &[u32]) -> Result<()> {
     match number {
-        LOAD => circuits::load(lists),
-        EVALUATE => circuits::evaluate(lists),
-        READ => read(bytes, lists),
-        PROVE => provers::prove(lists),
-        PROVE_ONE => provers::prove_one(lists),
-        CHECK => verdicts::check(lists),
-        OPEN => verdicts::open(lists),
-        STEP => verdicts::step(lists),
-        COUNT_WHOLE => counts::count(Messages::Whole, lists),
-        COUNT_SINGLE => counts::count(Messages::Single, lists),
-        COUNT_RULE => counts::count(Messages::Rule, lists),
+        LOAD => circuits::load(output, lists)?,
+        EVALUATE => circuits::evaluate(output, lists)?,
+        READ => read(output, bytes, lists)?,
+        PROVE => provers::prove(output, lists)?,
+        PROVE_ONE => provers::prove_one(output, lists)?,
+        CHECK => verdicts::check(output, lists)?,
+        OPEN => verdicts::open(output, lists)?,
+        STEP => verdicts::step(output, lists)?,
+        COUNT_WHOLE => counts::count(output, Messages::Whole, lists)?,
+        COUNT_SINGLE => counts::count(output, Messages::Single, lists)?,
+        COUNT_RULE => counts::count(output, Messages::Rule, lists)?,
         _ => {}
     }
-    io::write_all(STDOUT_FILENO, b"\n");
+    output.write_all(b"\n")
 }
 
 // What is printed behind a note. A program ends its lines itself.
-fn answer(number: u32, bytes: &[u8], lists: &[u32]) {
+fn answer<W: Write>(output: &mut W, number: u32, bytes: &[u8], lists: &[u32]) -> Result<()> {
     if number == TRANSCRIPT {
-        io::write_all(STDOUT_FILENO, b":\n");
-        programs::print_text(Program::Transcript, bytes);
-        return;
+        output.write_all(b":\n")?;
+        programs::print_text(Program::Transcript, bytes, output)?;
+        return Ok(());
     }
-    io::write_all(STDOUT_FILENO, b": ");
+    output.write_all(b": ")?;
     match number {
         VERDICT => {
-            programs::print_text(Program::Verdict, bytes);
+            programs::print_text(Program::Verdict, bytes, output)?;
         }
         OUTPUT => {
-            programs::print_text(Program::Evaluate, bytes);
+            programs::print_text(Program::Evaluate, bytes, output)?;
         }
-        _ => operation(number, bytes, lists),
+        _ => operation(output, number, bytes, lists)?,
     }
+    Ok(())
 }
 
-fn run(case: &[u8]) {
+fn run<W: Write>(output: &mut W, case: &[u8]) -> Result<()> {
     let bytes = xdr::word_at(case, 4) as usize;
     let lists = xdr::word_at(case, 8) as usize;
-    io::write_all(STDOUT_FILENO, cases::part(case, NOTE, bytes));
+    output.write_all(cases::part(case, NOTE, bytes))?;
     let mut words = [0u32; MAX_WORDS];
     let count = xdr::put_words(cases::part(case, lists, case.len()), &mut words);
     answer(
+        output,
         xdr::word_at(case, 0),
         cases::part(case, bytes, lists),
         &words[..count],
-    );
+    )
 }
 
-fn main() {
+fn main(rt: HostRuntime) -> Result<()> {
+    let mut input = rt.stdin();
+    let mut output = rt.stdout();
     let mut bytes = [0u8; MAX_BYTES];
     for _ in 0..MAX_CASES {
-        let count = cases::next(&mut bytes);
+        let count = cases::next(&mut input, &mut bytes)?;
         if count == 0 {
             break;
         }
-        run(&bytes[..count]);
+        run(&mut output, &bytes[..count])?;
     }
+    Ok(())
 }

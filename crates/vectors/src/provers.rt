@@ -1,28 +1,28 @@
 // Cases of both forms of prove.
 use crate::MAX_WORDS;
-use libc::STDOUT_FILENO;
 use prover::{Message, Proved};
+use std::io::{Result, Write};
 
 // Prints a number after a space.
-fn print_count(count: usize) {
-    io::write_all(STDOUT_FILENO, b" ");
-    io::print_decimal(STDOUT_FILENO, count as u64);
+fn print_count<W: Write>(output: &mut W, count: usize) -> Result<()> {
+    cases::print_labelled(output, b" ", count as u64)
 }
 
-fn print_proved(proved: Proved) {
+fn print_proved<W: Write>(output: &mut W, proved: Proved) -> Result<()> {
     match proved {
         Proved::Written(proof) => {
-            io::write_all(STDOUT_FILENO, b"proved");
-            cases::print_numbers(&[proof.output]);
-            print_count(proof.words);
+            output.write_all(b"proved")?;
+            cases::print_numbers(output, &[proof.output])?;
+            print_count(output, proof.words)?;
         }
         Proved::Refused(cause) => {
-            cases::print_refused(cause);
+            cases::print_refused(output, cause)?;
         }
     }
+    Ok(())
 }
 
-pub fn prove(lists: &[u32]) {
+pub fn prove<W: Write>(output: &mut W, lists: &[u32]) -> Result<()> {
     let mut buffer = [0u32; MAX_WORDS];
     let count = cases::copy(cases::list(lists, 3), &mut buffer);
     let lent = &mut buffer[..count];
@@ -32,11 +32,12 @@ pub fn prove(lists: &[u32]) {
         cases::list(lists, 2),
         lent,
     );
-    print_proved(proved);
-    cases::print_buffer(lent);
+    print_proved(output, proved)?;
+    cases::print_buffer(output, lent)?;
+    Ok(())
 }
 
-pub fn prove_one(lists: &[u32]) {
+pub fn prove_one<W: Write>(output: &mut W, lists: &[u32]) -> Result<()> {
     let mut buffer = [0u32; MAX_WORDS];
     let count = cases::copy(cases::list(lists, 3), &mut buffer);
     let lent = &mut buffer[..count];
@@ -48,12 +49,13 @@ pub fn prove_one(lists: &[u32]) {
     );
     match message {
         Message::Written(words) => {
-            io::write_all(STDOUT_FILENO, b"message");
-            print_count(words);
+            output.write_all(b"message")?;
+            print_count(output, words)?;
         }
         Message::Refused(cause) => {
-            cases::print_refused(cause);
+            cases::print_refused(output, cause)?;
         }
     }
-    cases::print_buffer(lent);
+    cases::print_buffer(output, lent)?;
+    Ok(())
 }

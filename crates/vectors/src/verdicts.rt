@@ -1,15 +1,15 @@
 // Cases of check, open and step.
-use libc::STDOUT_FILENO;
 use session::{Opening, Session, Verdict};
+use std::io::{Result, Write};
 use verifier::Outcome;
 
-fn print_record(session: Session) {
-    io::write_all(STDOUT_FILENO, b" record");
-    cases::print_numbers(&[session.layer, session.round, session.claim]);
+fn print_record<W: Write>(output: &mut W, session: Session) -> Result<()> {
+    output.write_all(b" record")?;
+    cases::print_numbers(output, &[session.layer, session.round, session.claim])?;
     if session.open {
-        io::write_all(STDOUT_FILENO, b" open");
+        output.write_all(b" open")
     } else {
-        io::write_all(STDOUT_FILENO, b" ended");
+        output.write_all(b" ended")
     }
 }
 
@@ -23,7 +23,7 @@ fn record(figures: &[u32]) -> Session {
     }
 }
 
-pub fn check(lists: &[u32]) {
+pub fn check<W: Write>(output: &mut W, lists: &[u32]) -> Result<()> {
     let outcome = verifier::check(
         cases::list(lists, 0),
         cases::list(lists, 1),
@@ -33,15 +33,16 @@ pub fn check(lists: &[u32]) {
     );
     match outcome {
         Outcome::Accepted => {
-            io::write_all(STDOUT_FILENO, b"accepted");
+            output.write_all(b"accepted")?;
         }
         Outcome::Refused(cause) => {
-            cases::print_refused(cause);
+            cases::print_refused(output, cause)?;
         }
     }
+    Ok(())
 }
 
-pub fn open(lists: &[u32]) {
+pub fn open<W: Write>(output: &mut W, lists: &[u32]) -> Result<()> {
     let opening = session::open(
         cases::list(lists, 0),
         cases::list(lists, 1),
@@ -50,16 +51,17 @@ pub fn open(lists: &[u32]) {
     );
     match opening {
         Opening::Opened(session) => {
-            io::write_all(STDOUT_FILENO, b"opened");
-            print_record(session);
+            output.write_all(b"opened")?;
+            print_record(output, session)?;
         }
         Opening::Refused(cause) => {
-            cases::print_refused(cause);
+            cases::print_refused(output, cause)?;
         }
     }
+    Ok(())
 }
 
-pub fn step(lists: &[u32]) {
+pub fn step<W: Write>(output: &mut W, lists: &[u32]) -> Result<()> {
     let stepped = session::step(
         cases::list(lists, 0),
         cases::list(lists, 1),
@@ -70,15 +72,15 @@ pub fn step(lists: &[u32]) {
     let verdict = stepped.verdict;
     match verdict {
         Verdict::Accepted => {
-            io::write_all(STDOUT_FILENO, b"accepted");
+            output.write_all(b"accepted")?;
         }
         Verdict::GoOn(coin) => {
-            io::write_all(STDOUT_FILENO, b"go on");
-            cases::print_numbers(&[coin]);
+            output.write_all(b"go on")?;
+            cases::print_numbers(output, &[coin])?;
         }
         Verdict::Refused(cause) => {
-            cases::print_refused(cause);
+            cases::print_refused(output, cause)?;
         }
     }
-    print_record(stepped.session);
+    print_record(output, stepped.session)
 }
