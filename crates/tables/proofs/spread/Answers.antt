@@ -1,21 +1,14 @@
 -- `spread` meets its contract. The loop keeps `Spread`: b entries of each half are written, and the others are as they were.
 use Prim.Native.Nat.{ℕ}
-use mathlib.Core.Path.{refl, ap, ◌∙◌}
+use mathlib.Core.Path.{ap, ◌∙◌}
 use native.Mathlib.Omega.{arith}
 use lib.ListN.{length-set}
-use lib.Seq.{lt-length-set}
 use Rattle.field.specs.Modulus.{modulus, numbers}
 use Rattle.field.proofs.Word.{by_residue}
 use Rattle.multilinear.proofs.Slope.{by_rest}
-use Rattle.tables.proofs.Spreading.{start, step, end}
+use Rattle.tables.proofs.Spreading.{step, end}
 use borrow.Author.Rules.{rules}
 use Rattle.tables.proofs.spread.Goals as goal
-
-pub loop-b-init : goal.loop-b-init
-loop-b-init c = (start _ _ _, refl)
-
-pub bounds-table-b-in-loop-b : goal.bounds-table-b-in-loop-b
-bounds-table-b-in-loop-b c = lt-length-set c.loop-b.table _ c.times-taken.result (search rules)
 
 pub loop-b-preserved : goal.loop-b-preserved
 loop-b-preserved c =

@@ -1,18 +1,14 @@
 -- `weights` meets its contract. The loop keeps `Weighed`: at the front stand the weights at the coordinates passed, from the last on.
-use Prim.Native.Nat.{◌-◌, ◌*◌}
+use Prim.Native.Nat.{◌-◌}
 use native.Mathlib.Omega.{arith}
-use mathlib.Core.Path.{◌≡◌, refl, sym, ◌∙◌}
+use mathlib.Core.Path.{◌≡◌, sym, ◌∙◌}
 use lib.ListN.{length, take, get_or, length-take, length-set}
-use lib.Seq.{length-take-le, get_or-take, take-suc-set}
-use Rattle.lists.proofs.Front.{front_of}
+use lib.Seq.{get_or-take, take-suc-set}
 use Rattle.lists.proofs.Parts.{length_most}
 use Rattle.extension.specs.Limits.{row_length}
-use Rattle.tables.proofs.Spreading.{none_weighed, few_weights, room, weigh_next, all_weighed}
+use Rattle.tables.proofs.Spreading.{none_weighed, weigh_next}
 use borrow.Author.Rules.{rules}
 use Rattle.tables.proofs.weights.Goals as goal
-
-pub returns-then-table-ne-MAX_WIDTH : goal.returns-then-table-ne-MAX_WIDTH
-returns-then-table-ne-MAX_WIDTH c = record { whole = λ e. absurd (c.if-table-ne-MAX_WIDTH.true e); other = λ _. refl }
 
 pub loop-left-init : goal.loop-left-init
 loop-left-init c =
@@ -24,21 +20,6 @@ loop-left-init c =
     let size = c.if-table-ne-MAX_WIDTH.false in
     none_weighed _ _ _ c.least-left.result (omega arith) count (length-set table 0 _ ∙ size) (take-suc-set table 0 _ (omega arith))
 
-pub overflow_mul-n : goal.overflow_mul-n
-overflow_mul-n c =
-    let fits = room _ _ _ c.loop-left.n c.loop-left.left c.loop-left.invariant (search rules) in
-    search rules
-
-pub slice_bounds-spread-end : goal.slice_bounds-spread-end
-slice_bounds-spread-end c =
-    let fits = room _ _ _ c.loop-left.n c.loop-left.left c.loop-left.invariant (search rules) in
-    search rules
-
-pub slice_bounds-spread-end-in-loop-left : goal.slice_bounds-spread-end-in-loop-left
-slice_bounds-spread-end-in-loop-left c =
-    let fits = room _ _ _ c.loop-left.n c.loop-left.left c.loop-left.invariant (search rules) in
-    sym (length-take-le (2 * c.loop-left.n) c.loop-left.table (omega (arith, c.loop-left.invariant.size)))
-
 pub loop-left-preserved : goal.loop-left-preserved
 loop-left-preserved c =
     let row = c.args.row in
@@ -46,12 +27,3 @@ loop-left-preserved c =
     let left = c.loop-left.left in
     weigh_next _ _ c.loop-left.table _ c.loop-left.n left (get_or row (left - 1) 0) c.loop-left.invariant (search rules)
     (sym (get_or-take k row (left - 1) 0 (omega (arith, length-take k row, c.loop-left.invariant.reached)))) c.spread.ensures
-
-pub shape_of-table : goal.shape_of-table
-shape_of-table c = c.loop-left.invariant.size ∙ sym c.if-table-ne-MAX_WIDTH.false
-
-pub returns : goal.returns
-returns c =
-    let front = front_of _ c.loop-left.n _ _ c.loop-left.invariant.size (few_weights _ _ _ _ c.loop-left.left c.loop-left.invariant)
-    (all_weighed _ _ _ _ c.loop-left.left c.loop-left.invariant (search rules)) in
-    record { whole = λ _. front; other = λ other. absurd (other c.if-table-ne-MAX_WIDTH.false) }
