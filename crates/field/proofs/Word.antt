@@ -1,33 +1,12 @@
--- Remainders of words by a number from 1 to 2^32, and what fits in a word or two.
+-- Remainders of words by a number from 1 to 2^32.
 -- Assumes nothing.
-use mathlib.Core.Path.{◌≡◌, sym, ap, ◌∙◌, subst}
-use Prim.Native.Nat.{ℕ, ◌+◌, ◌-◌, ◌*◌, ◌/◌, ◌%◌, ◌^◌, ◌<◌, ◌≤◌}
+use mathlib.Core.Path.{◌≡◌, sym, ap, ◌∙◌}
+use Prim.Native.Nat.{ℕ, ◌+◌, ◌-◌, ◌*◌, ◌/◌, ◌%◌, ◌<◌, ◌≤◌}
 use native.Mathlib.Nat.{mod-lt, mod-eq_of_lt, mod-eq-sub-mod, div-add-mod, add-mul-mod_self_left, add-mul-mod_self_right}
-use native.Mathlib.Nat.{sub-add_cancel, lt_of_le_of_lt, mul-le-mul_left, mul-lt-mul_of_pos_right, div-lt_iff_lt-mul, mul_comm}
+use native.Mathlib.Nat.{sub-add_cancel}
 use native.Mathlib.Omega.{arith}
-use lib.Pow.{pow_pos}
-use lib.Dec.{lit<}
 use Rattle.algebra.proofs.Euclid.{mod_mul_left}
-use mir.Val.{Fits}
-use mir.Syntax.{w32, w64}
 
--- WHAT FITS
-pub product_fits : {a b : ℕ} → a < 2 ^ 32 → b ≤ 2 ^ 32 → Fits w64 (a * b)
-product_fits {a} ha hb = record { fits = lt_of_le_of_lt (mul-le-mul_left a hb) (mul-lt-mul_of_pos_right ha (pow_pos 32)) }
-
--- a quotient by 2^32 is a word again
-pub quotient_word : {n : ℕ} → n < 2 ^ 64 → n / 4294967296 < 2 ^ 32
-quotient_word h = omega arith
-
-pub share_fits : {p r : ℕ} → r < p → Fits w32 (r * 4294967296 / p)
-share_fits {p} {r} h =
-    let pos : 0 < p = omega arith in
-    record {
-      fits = (div-lt_iff_lt-mul pos).1
-          (subst (λ (y : ℕ). r * 4294967296 < y) (mul_comm p 4294967296) (mul-lt-mul_of_pos_right h (lit< tt)));
-    }
-
--- REMAINDERS
 pub below : {n p : ℕ} → n < p → n ≡ n % p
 below h = sym (mod-eq_of_lt h)
 

@@ -5,16 +5,10 @@ use mathlib.Core.Path.{◌≡◌, sym, ap, ◌∙◌, subst}
 use mathlib.Core.List.{List, ◌++◌}
 use native.Mathlib.Omega.{arith}
 use lib.ListN.{length, length-drop, length-take, take, drop, take-append-drop}
-use lib.Seq.{length-take-le, take_all, take-append-le, drop-append-le}
+use lib.Seq.{take_all, take-append-le, drop-append-le}
 use Rattle.lists.specs.Buffer.{over}
 use Rattle.lists.specs.Front.{Front}
 use Rattle.lists.proofs.Buffer.{length_over, take_over}
-
--- the first m words of an array
-pub front_of : (n m : ℕ) (words array : List ℕ) → length array ≡ n → m ≤ n → take m array ≡ words → Front n words array
-front_of n m words array size h e =
-    let count : length words ≡ m = ap length (sym e) ∙ length-take-le m array (omega arith) in
-    record { size = size; holds = ap (λ (k : ℕ). take k array) count ∙ e }
 
 -- a list written over an array that holds it
 pub front_over : (n : ℕ) (words array : List ℕ) → length array ≡ n → length words ≤ n → Front n words (over words array)

@@ -3,10 +3,9 @@
 -- Assumes nothing.
 use mathlib.Core.Path.{◌≡◌, sym, ap, ◌∙◌}
 use mathlib.Core.List.{List, [], ◌∷◌}
-use Prim.Native.Nat.{ℕ, zero, suc, ◌≤◌, ◌<◌, min}
+use Prim.Native.Nat.{ℕ, zero, suc, ◌<◌, min}
 use native.Mathlib.Omega.{arith}
 use lib.ListN.{length, get_or, take}
-use lib.Seq.{length-take-le}
 use mir.Syntax.{w32}
 use mir.Val.{Val}
 use denote.Laws.{Is}
@@ -33,14 +32,6 @@ length_row m n rows vs i p h =
 -- a row of the two, and n coordinates of it
 module _ (rows : List (List ℕ)) (vs : List Val) (i k n : ℕ) (p : Is (Array (Array (UInt w32) row_length) 2) rows vs) (h : i < 2)
     (e : n ≡ min k row_length) where
-  pub row_holds : n ≤ length (get_or rows i [])
-  row_holds =
-      let size = length_row 2 row_length rows vs i p h in
-      omega arith
-
-  pub length_part : n ≡ length (take n (get_or rows i []))
-  length_part = sym (length-take-le n (get_or rows i []) row_holds)
-
   pub part_of_row : take n (get_or rows i []) ≡ take k (get_or rows i [])
   part_of_row =
       let size = length_row 2 row_length rows vs i p h in

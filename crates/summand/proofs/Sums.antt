@@ -4,7 +4,7 @@ use mathlib.Core.Path.{◌≡◌, refl, sym, ap, ap₂, ◌∙◌}
 use mathlib.Core.Logic.{◌≢◌}
 use mathlib.Core.Bool.{Bool, true, false, cond}
 use mathlib.Core.List.{List}
-use Prim.Native.Nat.{ℕ, zero, suc, ◌+◌, ◌-◌, ◌*◌, ◌/◌, ◌%◌, ◌≤◌, ◌<◌, min}
+use Prim.Native.Nat.{ℕ, zero, suc, ◌+◌, ◌-◌, ◌*◌, ◌/◌, ◌%◌, ◌≤◌, ◌<◌}
 use native.Mathlib.Nat.{zero-add, zero-mul, zero-mod, mod-eq_of_lt}
 use native.Mathlib.Numerals.{add-one}
 use native.Mathlib.Omega.{arith}
@@ -27,10 +27,6 @@ plus_zero : (p n : ℕ) → n < p → (0 + n) % p ≡ n
 plus_zero p n h = ap (λ (m : ℕ). m % p) (zero-add n) ∙ mod-eq_of_lt h
 
 -- THE PLACE of a kind's sum
-pub place_is : (kind : ℕ) → kind ≢ 0 → min (kind - 1) max_kind ≡ place_of kind
-place_is zero ne = absurd (ne refl)
-place_is (suc i) ne = ap (λ (j : ℕ). min j max_kind) (omega arith)
-
 pub placed : (kind : ℕ) → place_of kind < max_kind → kind ≡ suc (place_of kind)
 placed zero h = absurd (omega arith)
 placed (suc i) h = ap suc (omega arith)
@@ -163,9 +159,6 @@ module _ (p : ℕ) (sums : List ℕ) (x y : ℕ) where
         one_added value total refl
         (sym (ap (λ (n : ℕ). ((n * value) % p + total) % p) e ∙ ap (λ (n : ℕ). (n % p + total) % p) (zero-mul value)
         ∙ ap (λ (n : ℕ). (n + total) % p) (zero-mod p) ∙ plus_zero p total below))
-
-  pub all_added : (total i : ℕ) → Added total i → i ≡ 0 → total ≡ by_kinds (words p) sums x y
-  all_added total i h e = h.total_is ∙ ap (λ (k : ℕ). sum_from (words p) term k (drop k sums)) e
 
 -- the summand, from all of them
 pub from_sums : (N : Numbers ℕ) (gs : List Gate) (point u v : List ℕ) (x y : ℕ) → by_kinds N (wirings N gs point u v) x y ≡ combined N gs point u v x y

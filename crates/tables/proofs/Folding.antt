@@ -5,7 +5,7 @@ use mathlib.Core.List.{List, [], ◌∷◌, ◌++◌}
 use Prim.Native.Nat.{ℕ, ◌+◌, ◌/◌, ◌≤◌, ◌<◌}
 use native.Mathlib.Omega.{arith}
 use lib.ListN.{length, take, drop, get_or, set}
-use lib.Seq.{length-take-le, take_all}
+use lib.Seq.{length-take-le}
 use Rattle.lists.specs.Buffer.{over}
 use Rattle.lists.proofs.Steps.{take_up}
 use Rattle.lists.proofs.Storing.{Stored, kept, next, start as stored-start, end as stored-end}
@@ -69,6 +69,3 @@ module _ {C : Type 0} (N : Numbers C) (point vs : List C) where
             ∙ sym (folded_append N (take i point) (r ∷ []) vs)
             ∙ ap (λ (xs : List C). folded N xs vs) (sym (take_up point i N.𝟘 more));
       }
-
-  pub all_fixed : (l : List C) (n i : ℕ) → Fixed l n i → length point ≤ i → take n l ≡ folded N point vs
-  all_fixed l n i h all = h.holds ∙ ap (λ (xs : List C). folded N xs vs) (take_all i point all)

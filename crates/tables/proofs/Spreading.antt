@@ -123,10 +123,6 @@ module _ {C : Type 0} (N : Numbers C) (point : List C) where
     holds = h ∙ sym (ap (weights N) (drop_of_length-le point {i = left} (omega arith)));
   }
 
-  pub few_weights : (l : List C) (n left : ℕ) → Weighed l n left → n ≤ table_width
-  few_weights l n left h =
-      let few = h.few in omega (arith, h.count, weights_fit (length point - left) (omega arith))
-
   -- twice as many weights fit
   pub room : (l : List C) (n left : ℕ) → Weighed l n left → 0 < left → 2 * n ≤ table_width
   room l n left h more =
@@ -159,6 +155,3 @@ module _ {C : Type 0} (N : Numbers C) (point : List C) where
         size = length_back l part ws (2 * n) e (omega arith) (omega arith) ∙ size;
         holds = ap (λ (m : ℕ). take m (part ++ drop (2 * n) l)) (sym all) ∙ front_back l part ws (2 * n) e ∙ made;
       }
-
-  pub all_weighed : (l : List C) (n left : ℕ) → Weighed l n left → left ≡ 0 → take n l ≡ weights N point
-  all_weighed l n left h none = h.holds ∙ ap (λ (k : ℕ). weights N (drop k point)) none
