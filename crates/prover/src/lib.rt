@@ -84,7 +84,8 @@ pub fn prove(circuit: &[u32], input: &[u32], coins: &[u32], messages: &mut [u32]
     if let Checked::Refused(cause) = taken {
         return Proved::Refused(cause);
     }
-    if messages.len() < standing::message_words(circuit) {
+    let short = messages.len() < standing::message_words(circuit);
+    if short {
         return Proved::Refused(Cause::BufferShort);
     }
     Proved::Written(write_all(circuit, input, coins, messages))

@@ -13,17 +13,17 @@ pub returns-in-Refused-taken : goal.returns-in-Refused-taken
 returns-in-Refused-taken c =
     whole_coins _ _ _ _ _ (coins_refused _ _ _ c.in_default.is c.check_lists-lists.ensures c.check_coins-taken.ensures c.in-Refused-taken.is)
 
-pub returns-then-messages-message_words : goal.returns-then-messages-message_words
-returns-then-messages-message_words c =
+pub returns-then-short : goal.returns-then-short
+returns-then-short c =
     let k = admitted _ _ _ c.in_default.is c.check_lists-lists.ensures c.check_coins-taken.ensures c.in_default-taken.is in
-    whole_short _ _ _ _ k (omega (arith, c.message_words.ensures (its_circuit k), c.if-messages-message_words.true))
+    whole_short _ _ _ _ k (omega (arith, c.message_words.ensures (its_circuit k), c.if-short.true))
 
 pub write_all-requires : goal.write_all-requires
 write_all-requires c =
     let k = admitted _ _ _ c.in_default.is c.check_lists-lists.ensures c.check_coins-taken.ensures c.in_default-taken.is in
-    provable _ _ _ _ k (omega (arith, c.message_words.ensures (its_circuit k), c.if-messages-message_words.false))
+    provable _ _ _ _ k (omega (arith, c.message_words.ensures (its_circuit k), c.if-short.false))
 
 pub returns : goal.returns
 returns c =
     let k = admitted _ _ _ c.in_default.is c.check_lists-lists.ensures c.check_coins-taken.ensures c.in_default-taken.is in
-    whole_written _ _ _ _ k (omega (arith, c.message_words.ensures (its_circuit k), c.if-messages-message_words.false)) _ _ c.write_all.ensures
+    whole_written _ _ _ _ k (omega (arith, c.message_words.ensures (its_circuit k), c.if-short.false)) _ _ c.write_all.ensures
