@@ -24,10 +24,6 @@ module _ (c input : List ℕ) (y : ℕ) (cs : List ℕ) where
   unfolding open_answer
   free_opens e = ap (λ (n : ℕ). opened_by n (opened_at c y cs)) e
 
-  pub refused_opens : (n : ℕ) → open_cause c input y cs ≡ suc n → open_answer c input y cs ≡ refuses (suc n)
-  unfolding open_answer
-  refused_opens n e = ap (λ (k : ℕ). opened_by k (opened_at c y cs)) e
-
   pub answer_cause : cause_in (open_answer c input y cs) ≡ open_cause c input y cs
   unfolding open_answer
   answer_cause = cause_by (open_cause c input y cs) (opened_at c y cs)

@@ -2,16 +2,16 @@
 -- coordinates, clipped, take the coordinates that are fixed.
 -- Assumes nothing.
 use mathlib.Core.Path.{◌≡◌, refl, sym, ap, ◌∙◌}
-use mathlib.Core.Bool.{Bool, true, false, cond, not}
+use mathlib.Core.Bool.{Bool, not}
 use mathlib.Core.List.{List, [], ◌∷◌}
-use Prim.Native.Nat.{ℕ, ◌-◌, ◌/◌, ◌^◌, ◌≤◌, min, zero-le}
-use native.Mathlib.Nat.{min-le_left, min-le_right, sub-add-min_cancel, div-one}
+use Prim.Native.Nat.{ℕ, ◌-◌, ◌/◌, ◌^◌, ◌≤◌, min}
+use native.Mathlib.Nat.{min-le_right, sub-add-min_cancel, div-one}
 use native.Mathlib.Numerals.{one-add}
 use native.Mathlib.Decide.{dec_le}
 use native.Mathlib.Omega.{arith}
 use lib.Dec.{ltb, leb}
 use lib.ListN.{length, take, get_or, length-take}
-use lib.Pow.{shr-shr, shr_le}
+use lib.Pow.{shr-shr}
 use lib.Seq.{length-take-le}
 use borrow.Author.Tests.{lt-ltb, le-ltb, le-leb, lt-leb}
 use Rattle.lists.proofs.Front.{front_take}
@@ -29,7 +29,7 @@ use Rattle.circuit.specs.Circuit.{width_of}
 use Rattle.circuit.proofs.Sized.{width_of_lem, width_small}
 use Rattle.sumcheck.specs.Gatewise.{side_of, sums_of, sum_by_gates}
 use Rattle.sums.specs.declared.Cut.{Cut}
-use Rattle.sums.specs.Wire.{CutAt, Fits, side}
+use Rattle.sums.specs.Wire.{CutAt, side}
 use Rattle.sums.specs.Round.{fixed_first, fixed_second, side_at}
 
 -- THE LIMITS: a point of the largest exponent fills its row, and the values of such a layer fill a table
@@ -40,28 +40,12 @@ pub table_is : table_width ≡ 2 ^ max_exponent
 table_is = refl
 
 -- A CUT
-pub cut_fits : (k n : ℕ) (next : Bool) (c : Cut) → CutAt k n next c → k ≤ max_exponent → Fits c
-cut_fits k n next c h small =
-    let f = h.free in
-    record {
-      free = omega arith;
-      size = h.size ∙ ap (λ (m : ℕ). 2 ^ m) (sym f);
-      half = rw (h.half, h.size) (go next);
-    }
-  where
-    go : (b : Bool) → cond b (2 ^ (k - n) / 2) 0 ≤ 2 ^ (k - n)
-    go true = omega arith
-    go false = zero-le
-
 -- THE PARTS THAT ARE LENT
 width_within : (k n : ℕ) (entries table : List ℕ) → Table entries table → n ≡ width_of k → n ≤ length table
 width_within k n entries table t e = let size = t.size in omega (arith, table_is, width_small k)
 
 pub lent : (n : ℕ) (table : List ℕ) → n ≤ length table → n ≡ length (take n table)
 lent n table h = sym (length-take-le n table h)
-
-pub values_lent : (m n : ℕ) (values : List ℕ) → n ≡ min m (length values) → n ≡ length (take n values)
-values_lent m n values e = lent n values (omega (arith, min-le_right m (length values)))
 
 -- the next coordinate is the second point's where it is not the first's
 leb_not : (a b : ℕ) → leb a b ≡ not (ltb b a)
@@ -99,9 +83,6 @@ module _ (p : ℕ) where
   module _ {n m w : ℕ} {values row shares table : List ℕ} (h : Fixed n m w values row shares table) where
     pub shares_within : w ≤ length shares
     shares_within = width_within n w _ shares h.weighed h.width_is
-
-    pub table_within : m / 2 ^ n ≤ length table
-    table_within = let size = h.folds.size in omega (arith, shr_le m n, min-le_left table_width (length values))
 
     pub fixed_side : (k : ℕ) (next : Bool) (c : Cut) → CutAt k n next c → side (take w shares) (take (m / 2 ^ n) table) c ≡ side_at N k values row n next
     fixed_side k next c cut =
