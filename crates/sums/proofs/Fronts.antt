@@ -39,7 +39,6 @@ row_is = refl
 pub table_is : table_width ≡ 2 ^ max_exponent
 table_is = refl
 
--- A CUT
 -- THE PARTS THAT ARE LENT
 width_within : (k n : ℕ) (entries table : List ℕ) → Table entries table → n ≡ width_of k → n ≤ length table
 width_within k n entries table t e = let size = t.size in omega (arith, table_is, width_small k)
