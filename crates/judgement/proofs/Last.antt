@@ -1,7 +1,7 @@
 -- The last comparison, as the check computes it.
 -- Assumes nothing.
 use Prim.Native.Nat.{ℕ, suc, ◌+◌, ◌-◌, ◌^◌, min}
-use mathlib.Core.Path.{◌≡◌, sym, ap, ◌∙◌}
+use mathlib.Core.Path.{◌≡◌, sym, ap, ◌∙◌, subst}
 use mathlib.Core.List.{List}
 use native.Mathlib.Numerals.{add-one}
 use native.Mathlib.Omega.{arith}
@@ -14,13 +14,13 @@ use Rattle.multilinear.proofs.Words.{halving_on_words}
 use Rattle.extension.specs.Limits.{row_length}
 use Rattle.circuit.specs.Circuit.{prime_of, depth, output_exponent, exponents, exponent_at, input_exponent}
 use Rattle.circuit.specs.Sized.{LayerOf, LegalCircuit}
-use Rattle.circuit.proofs.Layers.{all_below_lem}
+use Rattle.circuit.proofs.Layers.{all_below_lem, prime_modulus}
 use Rattle.circuit.proofs.Loading.{legal_lists}
 use Rattle.circuit.proofs.Sized.{deep, exponent_small, layer_of}
 use Rattle.protocol.specs.Judge.{point_at, input_agrees}
 use Rattle.protocol.specs.Check.{Counted}
 use Rattle.protocol.proofs.Truth.{positive}
-use Rattle.standing.specs.Standing.{AtLayer, Row}
+use Rattle.standing.specs.Standing.{AtLayer, Row, PointStands}
 use Rattle.standing.proofs.Points.{point_length}
 use Rattle.standing.proofs.Coins.{so_far, sum_start, sum_all, sum_coins}
 
@@ -55,3 +55,12 @@ module _ (c input cs : List ℕ) (h : Counted c input cs) where
       ap (λ (v : ℕ). eqb v claim)
       (e ∙ ap (halving (words p) input) there ∙ halving_on_words p (positive c input h.lists) input z size (all_below_lem p input lists.residues)
       ∙ ap (λ (n : ℕ). extension (words p) input (point_at c n cs)) last)
+
+  -- from what the check computes
+  pub agrees_as : (k exponent layers p largest x claim : ℕ) (point : List ℕ) → k ≡ min exponent row_length → exponent ≡ exponent_at c layers
+      → layers ≡ depth c → PointStands c (layers + 1) cs point → p ≡ prime_of c → largest ≡ p - 1
+      → x ≡ halving (words (largest + 1)) input (take k point) → eqb x claim ≡ input_agrees c input cs claim
+  agrees_as k exponent layers p largest x claim point cut own deep stands prime residue e =
+      let f = prime_modulus c legal p largest prime residue in
+      agrees k x claim point (cut ∙ ap (λ (i : ℕ). min i row_length) (own ∙ ap (exponent_at c) deep))
+      (subst (λ (i : ℕ). PointStands c (i + 1) cs point) deep stands behind_last) (e ∙ ap (λ (m : ℕ). halving (words m) input (take k point)) f)
