@@ -29,7 +29,8 @@ use Rattle.protocol.proofs.Rounds.{coins_append}
 use Rattle.session.specs.Answers.{record_of, verdict_of, Fitting, goes_on, GoesOn, StepsOpen, Steps}
 use Rattle.session.specs.declared.Session.{Session}
 use Rattle.session.specs.declared.Stepped.{Stepped}
-use Rattle.session.proofs.Records.{legal, own}
+use Rattle.standing.specs.Standing.{CoinsBefore}
+use Rattle.session.proofs.Records.{legal, own, own_start_lem}
 
 -- the coins of the layers up to here are among all
 some_coins : (c : List ℕ) (l : ℕ) → layer_start c (suc l) ≤ coin_count c
@@ -38,6 +39,11 @@ some_coins c l =
     let ks : List ℕ = exponents c in
     let whole : coins_of ks ≡ coins_of (take l ks) + coins_of (drop l ks) = ap coins_of (sym (take-append-drop l ks)) ∙ coins_append (take l ks) (drop l ks) in
     omega arith
+
+-- the coins before a message, from those before its layer
+pub number_is : (c input cs : List ℕ) (s : Session) → Fitting c input cs s → {k : ℕ} → CoinsBefore c s.layer k
+    → k + s.round ≡ layer_start c s.layer + s.round
+number_is c input cs s h counted = ap (λ (i : ℕ). i + s.round) (counted (own_start_lem c input cs s h))
 
 module _ (c input cs : List ℕ) (s : Session) (h : Fitting c input cs s) (n : ℕ) (en : n ≡ layer_start c s.layer + s.round) where
   abbrev here : Place

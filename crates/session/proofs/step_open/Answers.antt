@@ -4,51 +4,35 @@ use Rattle.algebra.specs.Numbers.{words}
 use Rattle.algebra.specs.Polynomial.{value_at}
 use Rattle.refusal.proofs.Told.{refusal_told, none_told}
 use Rattle.circuit.proofs.Layers.{prime_modulus}
-use Rattle.session.proofs.Records.{own_start_lem, legal}
-use Rattle.session.proofs.Coming.{coins_few, coin_inside, at_round, refused_open, passed_open}
+use Rattle.session.proofs.Records.{legal}
+use Rattle.session.proofs.Coming.{number_is, coins_few, coin_inside, at_round, refused_open, passed_open}
 use Rattle.session.proofs.step_open.Goals as goal
 
 pub overflow_add-n : goal.overflow_add-n
-overflow_add-n c =
-    let s = c.args.session in
-    let number = ap (λ (i : ℕ). i + s.round) (c.coins_before.ensures (own_start_lem _ _ _ _ c.requires)) in
-    let few = coins_few _ _ _ _ c.requires _ number in
-    omega arith
+overflow_add-n c = let few = coins_few _ _ _ _ c.requires _ (number_is _ _ _ _ c.requires c.coins_before.ensures) in omega arith
 
 pub slice_bounds-judge-end : goal.slice_bounds-judge-end
 slice_bounds-judge-end c =
-    let s = c.args.session in
-    let number = ap (λ (i : ℕ). i + s.round) (c.coins_before.ensures (own_start_lem _ _ _ _ c.requires)) in
-    let there = coin_inside _ _ _ _ c.requires _ number in
+    let there = coin_inside _ _ _ _ c.requires _ (number_is _ _ _ _ c.requires c.coins_before.ensures) in
     sym (length-take-le _ _ (omega arith))
 
 pub returns-in-Refused : goal.returns-in-Refused
 returns-in-Refused c =
-    let s = c.args.session in
-    let number = ap (λ (i : ℕ). i + s.round) (c.coins_before.ensures (own_start_lem _ _ _ _ c.requires)) in
-    refused_open _ _ _ _ c.requires _ number c.args.message.now c.in-Refused.cause
-    (refusal_told c.in-Refused.is (c.judge-judged.ensures (at_round _ _ _ _ c.requires _ number))) _ refl c.ended.ensures
+    let counted = number_is _ _ _ _ c.requires c.coins_before.ensures in
+    let judged = c.judge-judged.ensures (at_round _ _ _ _ c.requires _ counted) in
+    refused_open _ _ _ _ c.requires _ counted c.args.message.now c.in-Refused.cause (refusal_told c.in-Refused.is judged) _ refl c.ended.ensures
 
 pub offset_bounds-coins-n : goal.offset_bounds-coins-n
-offset_bounds-coins-n c =
-    let s = c.args.session in
-    let number = ap (λ (i : ℕ). i + s.round) (c.coins_before.ensures (own_start_lem _ _ _ _ c.requires)) in
-    let few = coins_few _ _ _ _ c.requires _ number in
-    omega arith
+offset_bounds-coins-n c = let few = coins_few _ _ _ _ c.requires _ (number_is _ _ _ _ c.requires c.coins_before.ensures) in omega arith
 
 pub bounds-coins-n : goal.bounds-coins-n
-bounds-coins-n c =
-    let s = c.args.session in
-    let number = ap (λ (i : ℕ). i + s.round) (c.coins_before.ensures (own_start_lem _ _ _ _ c.requires)) in
-    let there = coin_inside _ _ _ _ c.requires _ number in
-    omega arith
+bounds-coins-n c = let there = coin_inside _ _ _ _ c.requires _ (number_is _ _ _ _ c.requires c.coins_before.ensures) in omega arith
 
 pub returns : goal.returns
 returns c =
-    let s = c.args.session in
     let m = c.args.message.now in
-    let n : ℕ = c.coins_before.result + s.round in
-    let number = ap (λ (i : ℕ). i + s.round) (c.coins_before.ensures (own_start_lem _ _ _ _ c.requires)) in
+    let n : ℕ = c.coins_before.result + c.args.session.round in
+    let number = number_is _ _ _ _ c.requires c.coins_before.ensures in
     let f = prime_modulus _ (legal _ _ _ _ c.requires) _ _ c.prime.ensures c.of.ensures in
     let y = c.value_at-claim.ensures ∙ ap (λ (p : ℕ). value_at (words p) m (get_or c.args.coins.now n 0)) f in
     let passed = none_told c.in_default.is (c.judge-judged.ensures (at_round _ _ _ _ c.requires n number)) in
