@@ -13,7 +13,7 @@ use Rattle.lists.proofs.Each.{all_at}
 use Rattle.walk.specs.Session.{Answer, accepted, going_on, refused, Record}
 use Rattle.protocol.specs.Rounds.{Place}
 use Rattle.protocol.specs.Session.{opened_by, open_cause, opened_at, open_answer, step_answer}
-use Rattle.protocol.specs.Prove.{Proof, proof_of, one_of, prove_cause, prove_answer, prove_one_cause, prove_one_answer}
+use Rattle.protocol.specs.Prove.{proof_of, one_of, prove_cause, prove_answer, prove_one_cause, prove_one_answer}
 use Rattle.protocol.proofs.Refusing.{refused_step, closed_stays}
 use Rattle.kidlothe.specs.Record.{session_of, session_words, open_words, words_of_step}
 use Rattle.kidlothe.specs.Answers.{plain_proof, plain_written, plain_step}
