@@ -176,7 +176,7 @@ class Job(unittest.TestCase):
             self.assertNotEqual(ran.stderr, "")
 
     def test_a_build_that_fails(self):
-        script(self.folder / "rt", "echo not proved >&2\nexit 1")
+        script(self.folder / "rt", "echo not proved\nexit 1")
         for arguments in ([], [WORKED / "circuit.txt", WORKED / "input.txt"]):
             ran = job(*arguments, env=path_with(self.folder))
             self.assertEqual((ran.stderr, ran.returncode), ("not proved\ntools/build failed with exit status 1\n", 3))
