@@ -1,4 +1,3 @@
-pub mod Words
 pub mod Opening
 pub mod Limits
 pub mod Proved

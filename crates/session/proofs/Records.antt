@@ -9,7 +9,7 @@ use native.Mathlib.Omega.{arith}
 use lib.Dec.{ltb, leb, eqb}
 use lib.ListN.{length}
 use borrow.Author.Tests.{le-leb, lt-leb, leb-true, ltb-true, eq-eqb, ne_eqb}
-use Rattle.circuit.specs.Limits.{max_depth, max_exponent}
+use Rattle.circuit.specs.Limits.{max_exponent}
 use Rattle.circuit.specs.Circuit.{prime_of, depth, exponents, exponent_at}
 use Rattle.circuit.specs.Sized.{LayerOf, LegalCircuit}
 use Rattle.circuit.proofs.Loading.{split_true, legal_lists}
@@ -95,9 +95,6 @@ module _ (c input cs : List ℕ) (s : Session) (h : Fitting c input cs s) where
   pub small_round : s.round ≤ 2 * max_exponent
   small_round = let low = exponent_small c s.layer own_layer in let reached = own.there.reached in omega arith
 
-  pub small_layer : s.layer ≤ max_depth
-  small_layer = let low = legal.sized.headed.shallow in let inside = own.there.last in omega arith
-
   at_end : ¬ (s.layer < depth c) → s.layer ≡ length (exponents c)
   at_end ne = let inside = own.there.last in omega (arith, ne, deep c legal)
 
@@ -108,13 +105,6 @@ module _ (c input cs : List ℕ) (s : Session) (h : Fitting c input cs s) where
       answer = answer ∙ ap (λ (x : Bool). (goes_on c input cs s coin y x).0) (sym e);
       after = after ∙ ap (λ (x : Bool). (goes_on c input cs s coin y x).1) (sym e);
     }
-
-    pub goes_round : is_line c (place s.layer s.round) ≡ false → (r : Stepped) → verdict_of r.verdict ≡ going_on coin
-        → record_of r.session ≡ at (place s.layer (s.round + 1)) y → GoesOn c input cs s coin y r
-    goes_round e r answer after =
-        goes false (ap (λ (b : Bool). b && eqb s.layer (length (exponents c))) e) r answer
-        (after ∙ ap (λ (j : ℕ). at (place s.layer j) y) (add-one s.round)
-        ∙ ap (λ (b : Bool). at (cond b (place (suc s.layer) 0) (place s.layer (suc s.round))) y) (sym e))
 
     pub goes_layer : is_line c (place s.layer s.round) ≡ true → s.layer < depth c → (r : Stepped) → verdict_of r.verdict ≡ going_on coin
         → record_of r.session ≡ at (place (s.layer + 1) 0) y → GoesOn c input cs s coin y r

@@ -6,9 +6,6 @@ use mathlib.Core.List.{List, [], ◌∷◌}
 use native.Mathlib.Omega.{arith}
 use lib.ListN.{length, take, drop, get_or}
 use lib.Seq.{take_all}
-use Rattle.refusal.specs.Number.{number_of}
-use Rattle.refusal.specs.declared.Cause.{Cause}
-use Rattle.refusal.proofs.Order.{refused_by}
 use Rattle.protocol.specs.Check.{check_answer}
 use Rattle.text.specs.Lines.{ascii}
 use Rattle.text.proofs.Lengths.{line_short}
@@ -28,9 +25,6 @@ unfolding lists_text
 printed_checked c input cs [] h = absurd (omega arith)
 printed_checked c input cs (y ∷ ms) h =
     ap (λ (ws : List ℕ). answer_text (check_answer c input y cs ws) accepted_text) (take_all (length (y ∷ ms) - 1) ms (omega arith))
-
-pub printed_cause : (cause : Cause) → refused_text (number_of cause) ≡ answer_text (number_of cause) accepted_text
-printed_cause cause = refused_by (λ n. answer_text n accepted_text) refused_text (λ n. refl) cause (number_of cause) refl
 
 pub lists_short : (c input cs ts : List ℕ) → length (lists_text c input cs ts) ≤ max_line
 unfolding lists_text

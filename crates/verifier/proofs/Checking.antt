@@ -1,8 +1,7 @@
--- What follows an opening in a whole check, and the cause after its last comparison.
+-- What follows an opening in a whole check.
 -- Assumes nothing.
 use Prim.Native.Nat.{ℕ}
 use mathlib.Core.Path.{◌≡◌, refl, sym, ap, ◌∙◌}
-use mathlib.Core.Bool.{Bool, true, false}
 use mathlib.Core.List.{List}
 use lib.ListN.{length}
 use borrow.Author.Tests.{ne_eqb}
@@ -10,7 +9,6 @@ use Rattle.refusal.specs.Number.{number_of}
 use Rattle.refusal.specs.declared.Cause.{Cause}
 use Rattle.refusal.proofs.Order.{refused_first}
 use Rattle.circuit.specs.Circuit.{message_words}
-use Rattle.walk.specs.Game.{final_cause}
 use Rattle.walk.specs.Session.{Record}
 use Rattle.protocol.specs.Rounds.{Place}
 use Rattle.protocol.specs.Check.{Counted, walk_from, check_answer}
@@ -37,10 +35,3 @@ module _ (c input : List ℕ) (y : ℕ) (cs ms : List ℕ) where
     check_walks n =
         ap (λ (r : Record Place). walk_from c input r.claim cs ms) (opened_record c input y cs s e)
         ∙ sym (check_walk c input y cs ms (opened c input y cs none) n)
-
--- the cause after the last comparison
-pub final_equal : (b : Bool) → b ≡ true → 0 ≡ final_cause b
-final_equal b e = sym (ap final_cause e)
-
-pub final_differs : (b : Bool) → b ≡ false → 18 ≡ final_cause b
-final_differs b e = sym (ap final_cause e)

@@ -3,19 +3,11 @@ use Rattle.std.proofs.Common.{◌<◌, Bool, sym, ap, ◌∙◌, arith}
 use Rattle.circuit.specs.Circuit.{depth}
 use Rattle.walk.specs.Session.{step_final}
 use Rattle.session.specs.Answers.{record_of}
-use Rattle.session.proofs.Records.{small_round, small_layer, goes_round, goes_layer, goes_ended}
+use Rattle.session.proofs.Records.{small_round, goes_layer, goes_ended}
 use Rattle.session.proofs.go_on.Goals as goal
 
 pub overflow_add-round : goal.overflow_add-round
 overflow_add-round c = let low = small_round _ _ _ _ c.requires in omega arith
-
-pub returns-then-not-is_line : goal.returns-then-not-is_line
-returns-then-not-is_line c =
-    goes_round _ _ _ _ c.requires c.args.coin c.args.claim (sym c.is_line.ensures ∙ c.if-not-is_line.true) _
-    c.went_on.ensures.0 c.went_on.ensures.1
-
-pub overflow_add-layer : goal.overflow_add-layer
-overflow_add-layer c = let low = small_layer _ _ _ _ c.requires in omega arith
 
 pub returns-then-session-depth : goal.returns-then-session-depth
 returns-then-session-depth c =

@@ -1,6 +1,6 @@
 -- `walk` meets its contract: what is left before a layer, or before a round, is the whole walk; the loops end where nothing is left or a
 -- message is refused.
-use Rattle.std.proofs.Common.{ℕ, ◌+◌, ◌-◌, ◌*◌, ◌≤◌, take, drop, get_or, length-take-le, sym, ap, ◌∙◌, subst, rules, arith}
+use Rattle.std.proofs.Common.{ℕ, ◌+◌, ◌-◌, ◌*◌, ◌≤◌, take, drop, get_or, ap, ◌∙◌, subst, arith}
 use Rattle.algebra.specs.Numbers.{words as words_of}
 use Rattle.algebra.specs.Polynomial.{value_at}
 use Rattle.refusal.proofs.Told.{refusal_told, none_told}
@@ -16,9 +16,6 @@ walk-init c =
     let legal = (legal_lists _ _ c.requires.given.lists).circuit in
     walk_starts _ c.requires _ (c.coins_before-n.ensures (first_layer _ legal))
 
-pub finish-requires : goal.finish-requires
-finish-requires c = c.requires.given
-
 pub loop-round-init : goal.loop-round-init
 loop-round-init c =
     let legal = (legal_lists _ _ c.requires.given.lists).circuit in
@@ -31,35 +28,17 @@ overflow_add-end c =
     let there = words_there _ d in
     omega (arith, c.message_length.ensures)
 
-pub offset_bounds-messages-at : goal.offset_bounds-messages-at
-offset_bounds-messages-at c =
-    let d = due _ c.requires c.loop-round.invariant.1 c.loop-round.invariant.0 c.loop-round-test.true in
-    let there = words_there _ d in
-    search rules
-
 pub slice_bounds-message-end : goal.slice_bounds-message-end
 slice_bounds-message-end c =
     let d = due _ c.requires c.loop-round.invariant.1 c.loop-round.invariant.0 c.loop-round-test.true in
     let there = words_there _ d in
     omega (arith, c.message_length.ensures)
 
-pub slice_bounds-judge-end : goal.slice_bounds-judge-end
-slice_bounds-judge-end c =
-    let d = due _ c.requires c.loop-round.invariant.1 c.loop-round.invariant.0 c.loop-round-test.true in
-    let there = coin_there _ d in
-    sym (length-take-le _ _ (omega arith))
-
 pub bounds-coins-n : goal.bounds-coins-n
 bounds-coins-n c =
     let d = due _ c.requires c.loop-round.invariant.1 c.loop-round.invariant.0 c.loop-round-test.true in
     let there = coin_there _ d in
     omega arith
-
-pub overflow_add-n : goal.overflow_add-n
-overflow_add-n c =
-    let d = due _ c.requires c.loop-round.invariant.1 c.loop-round.invariant.0 c.loop-round-test.true in
-    let there = coin_there _ d in
-    search rules
 
 pub loop-round-preserved : goal.loop-round-preserved
 loop-round-preserved c =
@@ -74,15 +53,6 @@ loop-round-preserved c =
       round_passes _ d wide.result wide.ensures c.value_at-claim.result passed
           (c.value_at-claim.ensures ∙ ap (λ (p : ℕ). value_at (words_of p) m (get_or c.args.coins.now r.n 0)) f),
     )
-
-pub overflow_add-layer : goal.overflow_add-layer
-overflow_add-layer c =
-    let last = c.loop-round.invariant.1.last in
-    let low = (legal_lists _ _ c.requires.given.lists).circuit.sized.headed.shallow in
-    omega arith
-
-pub walk-smaller : goal.walk-smaller
-walk-smaller c = let last = c.loop-round.invariant.1.last in search rules
 
 pub walk-preserved : goal.walk-preserved
 walk-preserved c =
