@@ -14,12 +14,13 @@ fn printed(program: &str, arguments: &[&str]) -> String {
     output.map_or("unknown".to_string(), |output| String::from_utf8_lossy(&output.stdout).trim().to_string())
 }
 
-/// The day and the machine of this run.
+/// The day and the machine of this run, and what compiled the two implementations.
 pub fn described() -> String {
     let processor = value_of("/proc/cpuinfo", "model name").unwrap_or("unknown".to_string());
     let cores = std::thread::available_parallelism().map_or(0, usize::from);
     let day = printed("date", &["-u", "+%F"]);
     let system = printed("uname", &["-sm"]);
     let compiler = printed("rustc", &["--version"]);
-    format!("{day}, on {cores} cores of {processor} ({system}), {compiler}")
+    let kit = printed("rt", &["version"]);
+    format!("{day}, on {cores} cores of {processor} ({system}), {compiler}, {kit}")
 }
