@@ -8,17 +8,6 @@ use session::{Opening, Verdict};
 use std::io::{Result, Write};
 use verifier::Outcome;
 
-// Whose messages are counted.
-#[derive(Clone, Copy)]
-pub enum Messages {
-    // the prover's, all at once
-    Whole,
-    // the prover's, one after the other
-    Single,
-    // those of the rule
-    Rule,
-}
-
 const ALL_LISTS: u32 = 2197;
 
 // Where a rule's second and third messages start.
@@ -31,6 +20,7 @@ fn coins_of(number: u32) -> [u32; 3] {
     [number / 169 % 13, number / 13 % 13, number % 13]
 }
 
+// The prover's messages, all at once.
 fn whole(circuit: &[u32], input: &[u32], coins: [u32; 3]) -> [u32; 8] {
     let mut messages = [0u32; 8];
     prover::prove(circuit, input, &coins, &mut messages);
@@ -44,12 +34,11 @@ fn following(circuit: &[u32], input: &[u32], prefix: &[u32]) -> [u32; 3] {
     message
 }
 
+// The prover's messages, one after the other.
 fn single(circuit: &[u32], input: &[u32], coins: [u32; 3]) -> [u32; 8] {
-    let r = coins[0];
-    let s = coins[1];
     let first = following(circuit, input, &[]);
-    let second = following(circuit, input, &[r]);
-    let third = following(circuit, input, &[r, s]);
+    let second = following(circuit, input, &coins[..1]);
+    let third = following(circuit, input, &coins[..2]);
     [
         first[0], first[1], first[2], second[0], second[1], second[2], third[0], third[1],
     ]
@@ -69,21 +58,6 @@ fn ruled(rule: &[u32], number: u32) -> [u32; 8] {
         lists::word(rule, third),
         lists::word(rule, third + 1),
     ]
-}
-
-// The messages on the coin list of a number.
-fn messages_of(
-    whose: Messages,
-    circuit: &[u32],
-    input: &[u32],
-    rule: &[u32],
-    number: u32,
-) -> [u32; 8] {
-    match whose {
-        Messages::Whole => whole(circuit, input, coins_of(number)),
-        Messages::Single => single(circuit, input, coins_of(number)),
-        Messages::Rule => ruled(rule, number),
-    }
 }
 
 // 1 where the check accepts, and otherwise 0.
@@ -128,7 +102,14 @@ fn print_accepted<W: Write>(output: &mut W, by_check: u32, by_session: u32) -> R
     output.write_all(b" by session")
 }
 
-pub fn count<W: Write>(output: &mut W, whose: Messages, lists: &[u32]) -> Result<()> {
+// Counts the lists on which the messages that each list's number gives are accepted, and prints both counts.
+fn count<W: Write, M: Fn(u32) -> [u32; 8]>(
+    output: &mut W,
+    lists: &[u32],
+    messages_of: M,
+) -> Result<()>
+    requires { M.IsAlwaysCallable messages_of }
+{
     let circuit = cases::list(lists, 0);
     let input = cases::list(lists, 1);
     let value = lists::word(cases::list(lists, 2), 0);
@@ -136,9 +117,37 @@ pub fn count<W: Write>(output: &mut W, whose: Messages, lists: &[u32]) -> Result
     let mut by_session = 0;
     for number in 0..ALL_LISTS {
         let coins = coins_of(number);
-        let messages = messages_of(whose, circuit, input, cases::list(lists, 3), number);
+        let messages = messages_of(number);
         by_check += checked(circuit, input, value, &coins, &messages);
         by_session += stepped(circuit, input, value, &coins, &messages);
     }
     print_accepted(output, by_check, by_session)
+}
+
+// Of the prover's messages, all at once.
+pub fn count_whole<W: Write>(output: &mut W, lists: &[u32]) -> Result<()> {
+    let circuit = cases::list(lists, 0);
+    let input = cases::list(lists, 1);
+    count(
+        output,
+        lists,
+        |number| whole(circuit, input, coins_of(number)),
+    )
+}
+
+// Of the prover's messages, one after the other.
+pub fn count_single<W: Write>(output: &mut W, lists: &[u32]) -> Result<()> {
+    let circuit = cases::list(lists, 0);
+    let input = cases::list(lists, 1);
+    count(
+        output,
+        lists,
+        |number| single(circuit, input, coins_of(number)),
+    )
+}
+
+// Of a rule's messages.
+pub fn count_rule<W: Write>(output: &mut W, lists: &[u32]) -> Result<()> {
+    let rule = cases::list(lists, 3);
+    count(output, lists, |number| ruled(rule, number))
 }

@@ -20,38 +20,60 @@ mod counts;
 mod provers;
 mod verdicts;
 
-use counts::Messages;
 use programs::Program;
 use std::io::{Result, Write};
 use xdr::Arrays;
 
-const LOAD: u32 = 1;
+// An operation whose answer is a line.
+#[derive(Clone, Copy)]
+enum Operation {
+    Load,
+    Evaluate,
+    Read,
+    Prove,
+    ProveOne,
+    Check,
+    Open,
+    Step,
+    CountWhole,
+    CountSingle,
+    CountRule,
+}
 
-const EVALUATE: u32 = 2;
+// What a case calls for: the line of an operation, or what a program prints.
+#[derive(Clone, Copy)]
+enum Task {
+    Answer(Operation),
+    Print(Program),
+}
 
-const READ: u32 = 3;
+// A number that calls for nothing.
+#[derive(Clone, Copy)]
+struct UnknownTask;
 
-const PROVE: u32 = 4;
+impl TryFrom<u32> for Task {
+    type Error = UnknownTask;
 
-const PROVE_ONE: u32 = 5;
-
-const CHECK: u32 = 6;
-
-const OPEN: u32 = 7;
-
-const STEP: u32 = 8;
-
-const TRANSCRIPT: u32 = 9;
-
-const VERDICT: u32 = 10;
-
-const OUTPUT: u32 = 11;
-
-const COUNT_WHOLE: u32 = 12;
-
-const COUNT_SINGLE: u32 = 13;
-
-const COUNT_RULE: u32 = 14;
+    fn try_from(number: u32) -> std::result::Result<Task, UnknownTask> {
+        match number {
+            1 => Ok(Task::Answer(Operation::Load)),
+            2 => Ok(Task::Answer(Operation::Evaluate)),
+            3 => Ok(Task::Answer(Operation::Read)),
+            4 => Ok(Task::Answer(Operation::Prove)),
+            5 => Ok(Task::Answer(Operation::ProveOne)),
+            6 => Ok(Task::Answer(Operation::Check)),
+            7 => Ok(Task::Answer(Operation::Open)),
+            8 => Ok(Task::Answer(Operation::Step)),
+            9 => Ok(Task::Print(Program::Transcript)),
+            10 => Ok(Task::Print(Program::Verdict)),
+            11 => Ok(Task::Print(Program::Evaluate)),
+            12 => Ok(Task::Answer(Operation::CountWhole)),
+            13 => Ok(Task::Answer(Operation::CountSingle)),
+            14 => Ok(Task::Answer(Operation::CountRule)),
+            _ => Err(UnknownTask),
+        }
+    }
+}
 
 // Cases enough for all, bytes enough for the longest, and words enough for its lists and for a buffer that is lent.
 const MAX_CASES: usize = 65536;
@@ -85,43 +107,51 @@ fn read<W: Write>(output: &mut W, bytes: &[u8], lists: &[u32]) -> Result<()> {
     Ok(())
 }
 
-// The line of an operation: what it answers.
-fn operation<W: Write>(output: &mut W, number: u32, bytes: &[u8], lists: &[u32]) -> Result<()> {
-    match number {
-        LOAD => circuits::load(output, lists)?,
-        EVALUATE => circuits::evaluate(output, lists)?,
-        READ => read(output, bytes, lists)?,
-        PROVE => provers::prove(output, lists)?,
-        PROVE_ONE => provers::prove_one(output, lists)?,
-        CHECK => verdicts::check(output, lists)?,
-        OPEN => verdicts::open(output, lists)?,
-        STEP => verdicts::step(output, lists)?,
-        COUNT_WHOLE => counts::count(output, Messages::Whole, lists)?,
-        COUNT_SINGLE => counts::count(output, Messages::Single, lists)?,
-        COUNT_RULE => counts::count(output, Messages::Rule, lists)?,
-        _ => {}
+// What an operation answers.
+fn answer<W: Write>(
+    output: &mut W,
+    operation: Operation,
+    bytes: &[u8],
+    lists: &[u32],
+) -> Result<()> {
+    match operation {
+        Operation::Load => circuits::load(output, lists),
+        Operation::Evaluate => circuits::evaluate(output, lists),
+        Operation::Read => read(output, bytes, lists),
+        Operation::Prove => provers::prove(output, lists),
+        Operation::ProveOne => provers::prove_one(output, lists),
+        Operation::Check => verdicts::check(output, lists),
+        Operation::Open => verdicts::open(output, lists),
+        Operation::Step => verdicts::step(output, lists),
+        Operation::CountWhole => counts::count_whole(output, lists),
+        Operation::CountSingle => counts::count_single(output, lists),
+        Operation::CountRule => counts::count_rule(output, lists),
     }
-    output.write_all(b"\n")
 }
 
-// What is printed behind a note. A program ends its lines itself.
-fn answer<W: Write>(output: &mut W, number: u32, bytes: &[u8], lists: &[u32]) -> Result<()> {
-    if number == TRANSCRIPT {
-        output.write_all(b":\n")?;
-        programs::print_text(Program::Transcript, bytes, output)?;
-        return Ok(());
+// What stands between a note and what a program prints, which ends its lines itself.
+fn heading(program: Program) -> &'static [u8] {
+    match program {
+        Program::Transcript => b":\n",
+        Program::Verdict | Program::Evaluate => b": ",
     }
-    output.write_all(b": ")?;
-    match number {
-        VERDICT => {
-            programs::print_text(Program::Verdict, bytes, output)?;
+}
+
+// What is printed behind a note.
+fn perform<W: Write>(output: &mut W, number: u32, bytes: &[u8], lists: &[u32]) -> Result<()> {
+    match Task::try_from(number) {
+        Ok(Task::Print(program)) => {
+            output.write_all(heading(program))?;
+            programs::print_text(program, bytes, output)?;
+            Ok(())
         }
-        OUTPUT => {
-            programs::print_text(Program::Evaluate, bytes, output)?;
+        Ok(Task::Answer(operation)) => {
+            output.write_all(b": ")?;
+            answer(output, operation, bytes, lists)?;
+            output.write_all(b"\n")
         }
-        _ => operation(output, number, bytes, lists)?,
+        Err(UnknownTask) => output.write_all(b": \n"),
     }
-    Ok(())
 }
 
 fn run<W: Write>(output: &mut W, case: &[u8]) -> Result<()> {
@@ -130,7 +160,7 @@ fn run<W: Write>(output: &mut W, case: &[u8]) -> Result<()> {
     output.write_all(cases::part(case, NOTE, bytes))?;
     let mut words = [0u32; MAX_WORDS];
     let count = xdr::put_words(cases::part(case, lists, case.len()), &mut words);
-    answer(
+    perform(
         output,
         xdr::word_at(case, 0),
         cases::part(case, bytes, lists),

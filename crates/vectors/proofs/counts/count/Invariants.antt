@@ -3,4 +3,5 @@ use Rattle.std.proofs.Common.{◌≤◌}
 use Rattle.vectors.proofs.counts.count.Given as goal
 
 abbrev pub invariant-loop-number : goal.invariant-loop-number
-invariant-loop-number g l = (l.by_check ≤ l.number) × (l.by_session ≤ l.number)
+invariant-loop-number g l =
+    (l.by_check ≤ l.number) × (l.by_session ≤ l.number) × goal.M-IsAlwaysCallable g l.messages_of
