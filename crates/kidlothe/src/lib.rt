@@ -230,26 +230,27 @@ pub fn kidlothe_open(
     }
 }
 
-// A verdict in plain numbers.
-fn step_of(verdict: Verdict) -> Step
-    ensures { result ≡ plain_step (verdict_of verdict) }
-{
-    match verdict {
-        Verdict::Accepted => Step {
-            refusal: 0,
-            accepted: 1,
-            coin: 0,
-        },
-        Verdict::GoOn(coin) => Step {
-            refusal: 0,
-            accepted: 0,
-            coin,
-        },
-        Verdict::Refused(cause) => Step {
-            refusal: refusal::number(cause),
-            accepted: 0,
-            coin: 0,
-        },
+impl From<Verdict> for Step {
+    ghost from_gives = { λ verdict step. step ≡ plain_step (verdict_of verdict) };
+
+    fn from(verdict: Verdict) -> Step {
+        match verdict {
+            Verdict::Accepted => Step {
+                refusal: 0,
+                accepted: 1,
+                coin: 0,
+            },
+            Verdict::GoOn(coin) => Step {
+                refusal: 0,
+                accepted: 0,
+                coin,
+            },
+            Verdict::Refused(cause) => Step {
+                refusal: refusal::number(cause),
+                accepted: 0,
+                coin: 0,
+            },
+        }
     }
 }
 
@@ -265,8 +266,6 @@ pub fn kidlothe_step(
 {
     let before = session_of(session);
     let stepped = session::step(circuit, input, coins, before, message);
-    let after = stepped.session;
-    let verdict = stepped.verdict;
-    *session = step_words(session, after);
-    step_of(verdict)
+    *session = step_words(session, stepped.session);
+    stepped.verdict.into()
 }
