@@ -69,5 +69,5 @@ returns c =
     let values = c.all_values-values.result in
     let done = left_values _ _ buffer total values legal (input_ends _ _ legal _ at) c.if-buffer-total.false c.all_values-values.ensures in
     let front = length-take-le total values (omega (arith, few, c.all_values-values.ensures.size)) in
-    let put = over_whole (take total values) buffer _ (omega (arith, front, c.if-buffer-total.false)) c.put.ensures in
+    let put = over_whole (take total values) buffer _ (omega (arith, front, c.if-buffer-total.false)) c.put.ensures.items in
     record { answer = done.answer; buffer = put ∙ done.buffer }

@@ -11,4 +11,4 @@ pub returns : goal.returns
 returns c =
     let a = c.args in
     placed (replicate {A = ℕ} max_values 0) c.put.new.buffer a.input.now a.at (length-replicate {A = ℕ} max_values 0)
-    c.requires (over_whole a.input.now _ _ (search rules) c.put.ensures)
+    c.requires (over_whole a.input.now _ _ (search rules) c.put.ensures.items)

@@ -24,4 +24,4 @@ returns c il h =
     ap (take (st.own + 1)) (words.ensures ∙ ap (λ (p : ℕ). lined p vs st) f)
     ∙ line_words l c.args.layer c.args.round past vs c.args.buffer.now h st t il (st.own + 1) n in
     let room = subst (λ (i : ℕ). i ≤ length c.args.buffer.now) (sym n) h.room in
-    written words.result c.args.buffer.now _ _ (st.own + 1) room said c.put.ensures
+    written words.result c.args.buffer.now _ _ (st.own + 1) room said c.put.ensures.items

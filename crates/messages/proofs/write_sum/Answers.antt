@@ -17,4 +17,4 @@ returns c nl h =
     let said =
     c.sum_message-words.ensures ∙ ap (λ (p : ℕ). summed p above vs a.round st) f
     ∙ sum_words _ a.layer a.round a.past.now vs a.buffer.now h st t nl above c.gates_above.ensures in
-    sum_written _ a.layer a.round a.past.now vs a.buffer.now h c.sum_message-words.result _ said c.put.ensures
+    sum_written _ a.layer a.round a.past.now vs a.buffer.now h c.sum_message-words.result _ said c.put.ensures.items

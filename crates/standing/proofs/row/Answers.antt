@@ -8,4 +8,4 @@ use Rattle.standing.proofs.row.Goals as goal
 pub returns : goal.returns
 returns c =
     let l = c.args.coordinates.now in
-    front_put row_length l (replicate {A = ℕ} row_length 0) _ (length-replicate {A = ℕ} row_length 0) c.put.ensures
+    front_put row_length l (replicate {A = ℕ} row_length 0) _ (length-replicate {A = ℕ} row_length 0) c.put.ensures.items

@@ -17,7 +17,7 @@ loop-i-init c =
     let table = c.args.table.now in
     let size = c.if-table-ne-MAX_WIDTH.false in
     let count : c.least-n.result ≡ length (take table_width values) = length_most table_width _ _ values refl c.least-n.ensures in
-    let front = front_put table_width values table _ size c.put.ensures in
+    let front = front_put table_width values table _ size c.put.ensures.items in
     none_fixed _ _ _ _ c.least-n.result (omega (arith, c.least-n.ensures)) front.size (front_take front _ count)
 
 pub loop-i-preserved : goal.loop-i-preserved
