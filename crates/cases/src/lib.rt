@@ -101,7 +101,7 @@ pub fn print_numbers<W: Write>(output: &mut W, numbers: &[u32]) -> Result<usize>
 pub fn print_refused<W: Write>(output: &mut W, cause: Cause) -> Result<u32>
     ensures { IfOk result (λ n. n ≡ number_of cause) }
 {
-    let number = refusal::number(cause);
+    let number = u32::from(cause);
     print_labelled(output, b"refused ", long(number))?;
     Ok(number)
 }

@@ -12,7 +12,7 @@ ghost use Rattle.evaluation.specs.Layer.{layer_values, AllValues, Fillable, Plac
 ghost use Rattle.evaluation.specs.Evaluate.{Evaluates};
 
 use field::Field;
-use refusal::{Cause, Checked};
+use refusal::Cause;
 
 // The gate and input words of the largest circuit.
 pub const MAX_VALUES: usize = 1 + layout::MAX_DEPTH * (1 << layout::MAX_EXPONENT);
@@ -81,7 +81,7 @@ pub fn evaluate(circuit: &[u32], input: &[u32], buffer: &mut [u32]) -> Evaluated
     ensures { Evaluates circuit.now input.now buffer.old result buffer.new }
 {
     let checked = legality::check_lists(circuit, input);
-    if let Checked::Refused(cause) = checked {
+    if let Err(cause) = checked {
         return Evaluated::Refused(cause);
     }
     let place = layout::gates_before(circuit, layout::depth(circuit));

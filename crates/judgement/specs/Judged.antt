@@ -1,8 +1,8 @@
 -- What is said of a message at its round, and of the last claim, where the circuit is legal and the coins are those before the place.
 -- Assumes nothing.
-use Rattle.std.specs.Prelude.{ℕ, ◌*◌, ◌≡◌, Bool, List, length}
+use Rattle.std.specs.Prelude.{ℕ, ◌*◌, ◌≡◌, ⊤, Bool, List, Result, length}
 use Rattle.refusal.specs.Number.{cause_of}
-use Rattle.refusal.specs.declared.Checked.{Checked}
+use Rattle.refusal.specs.declared.Cause.{Cause}
 use Rattle.circuit.specs.Circuit.{exponent_at}
 use Rattle.protocol.specs.Rounds.{Place, place, is_line, AtRound}
 use Rattle.protocol.specs.Judge.{fixed, point_at, line_claim, compared, judge, input_agrees}
@@ -18,7 +18,7 @@ abbrev pub Compares : List ℕ → Place → List ℕ → List ℕ → ℕ → T
 Compares c r past m v = AtRound c r (length past) → v ≡ compared c (is_line c r) r past m
 
 -- an answer is the judgement of a message
-abbrev pub Judges : List ℕ → Place → List ℕ → ℕ → List ℕ → Checked → Type 0
+abbrev pub Judges : List ℕ → Place → List ℕ → ℕ → List ℕ → Result ⊤ Cause → Type 0
 Judges c r past claim m answer = AtRound c r (length past) → cause_of answer ≡ judge c r past claim m
 
 -- an answer is the last comparison

@@ -7,7 +7,7 @@ ghost use Rattle.judgement.specs.Judged.{ClaimsLine, Compares, Judges, ComparesL
 
 use extension::MAX_COORDINATES;
 use field::Field;
-use refusal::{Cause, Checked};
+use refusal::Cause;
 
 // The summand at the two points of a layer's line, with x and y for what the line gives at its ends.
 fn line_claim(circuit: &[u32], layer: usize, past: &[u32], x: u32, y: u32) -> u32
@@ -53,22 +53,22 @@ pub fn judge(
     past: &[u32],
     claim: u32,
     message: &[u32],
-) -> Checked
+) -> Result<(), Cause>
     ensures { Judges circuit.now (place layer round) past.now claim message.now result }
 {
     if message.len() != standing::message_length(circuit, layer, round) {
-        return Checked::Refused(Cause::MessageLength);
+        return Err(Cause::MessageLength);
     }
     if !legality::all_below(message, layout::prime(circuit)) {
-        return Checked::Refused(Cause::MessageWord);
+        return Err(Cause::MessageWord);
     }
     if compared(circuit, layer, round, past, message) == claim {
-        return Checked::Legal;
+        return Ok(());
     }
     if standing::is_line(circuit, layer, round) {
-        return Checked::Refused(Cause::LineDiffers);
+        return Err(Cause::LineDiffers);
     }
-    Checked::Refused(Cause::RoundDiffers)
+    Err(Cause::RoundDiffers)
 }
 
 // The last comparison: the input's extension at the point that the coins give.

@@ -12,7 +12,6 @@ ghost use Rattle.kidlothe.specs.Answers.{plain_step, ExportsEvaluate, ExportsRea
 
 use evaluation::Evaluated;
 use prover::{Message, Proved};
-use refusal::Checked;
 use session::{Opening, Session, Verdict};
 use verifier::Outcome;
 use xdr::Arrays;
@@ -73,8 +72,8 @@ pub fn kidlothe_load(circuit: &[u32]) -> u32
 {
     let loaded = legality::load(circuit);
     match loaded {
-        Checked::Legal => 0,
-        Checked::Refused(cause) => refusal::number(cause),
+        Ok(()) => 0,
+        Err(cause) => u32::from(cause),
     }
 }
 
@@ -86,7 +85,7 @@ pub fn kidlothe_evaluate(circuit: &[u32], input: &[u32], buffer: &mut [u32]) -> 
     match evaluated {
         Evaluated::Output(output) => Evaluation { refusal: 0, output },
         Evaluated::Refused(cause) => Evaluation {
-            refusal: refusal::number(cause),
+            refusal: u32::from(cause),
             output: 0,
         },
     }
@@ -111,7 +110,7 @@ pub fn kidlothe_read(bytes: &[u8], number: u32, buffer: &mut [u32]) -> Counts
             fourth,
         },
         Arrays::Refused(cause) => Counts {
-            refusal: refusal::number(cause),
+            refusal: u32::from(cause),
             first: 0,
             second: 0,
             third: 0,
@@ -132,7 +131,7 @@ pub fn kidlothe_prove(circuit: &[u32], input: &[u32], coins: &[u32], messages: &
             words: proof.words,
         },
         Proved::Refused(cause) => Proof {
-            refusal: refusal::number(cause),
+            refusal: u32::from(cause),
             output: 0,
             words: 0,
         },
@@ -152,7 +151,7 @@ pub fn kidlothe_prove_one(
     match message {
         Message::Written(words) => Written { refusal: 0, words },
         Message::Refused(cause) => Written {
-            refusal: refusal::number(cause),
+            refusal: u32::from(cause),
             words: 0,
         },
     }
@@ -171,7 +170,7 @@ pub fn kidlothe_check(
     let outcome = verifier::check(circuit, input, output, coins, messages);
     match outcome {
         Outcome::Accepted => 0,
-        Outcome::Refused(cause) => refusal::number(cause),
+        Outcome::Refused(cause) => u32::from(cause),
     }
 }
 
@@ -226,7 +225,7 @@ pub fn kidlothe_open(
             *session = session_words(opened);
             0
         }
-        Opening::Refused(cause) => refusal::number(cause),
+        Opening::Refused(cause) => u32::from(cause),
     }
 }
 
@@ -246,7 +245,7 @@ impl From<Verdict> for Step {
                 coin,
             },
             Verdict::Refused(cause) => Step {
-                refusal: refusal::number(cause),
+                refusal: u32::from(cause),
                 accepted: 0,
                 coin: 0,
             },

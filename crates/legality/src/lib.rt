@@ -9,7 +9,7 @@ ghost use Rattle.circuit.specs.Legal.{all_below, gate_cause, gates_cause, layers
 ghost use Rattle.circuit.specs.Sized.{LegalCircuit, Sized};
 
 use layout::{MAX_DEPTH, MAX_EXPONENT};
-use refusal::{Cause, Checked};
+use refusal::Cause;
 
 // Whether each word is below p.
 pub fn all_below(words: &[u32], p: u32) -> bool
@@ -25,45 +25,42 @@ pub fn all_below(words: &[u32], p: u32) -> bool
 
 // One gate above a layer of `next` gates. Each return is one case of `gate_cause`.
 #[tactic(auto, using(circuit::proofs::Legal::gate_kind, circuit::proofs::Legal::gate_right, circuit::proofs::Legal::gate_order, circuit::proofs::Legal::gate_used, circuit::proofs::Legal::gate_wired_empty, circuit::proofs::Legal::gate_empty))]
-fn check_gate(kind: u32, left: u32, right: u32, next: usize) -> Checked
+fn check_gate(kind: u32, left: u32, right: u32, next: usize) -> Result<(), Cause>
     ensures { cause_of result ≡ gate_cause next (gate kind left right) }
 {
     if 2 < kind {
-        return Checked::Refused(Cause::GateKind);
+        return Err(Cause::GateKind);
     }
     if next <= right as usize {
-        return Checked::Refused(Cause::GateWires);
+        return Err(Cause::GateWires);
     }
     // a left wire that is not above the right one is inside the next layer too
     if right < left {
-        return Checked::Refused(Cause::GateWires);
+        return Err(Cause::GateWires);
     }
     if 0 < kind {
-        return Checked::Legal;
+        return Ok(());
     }
     if 0 < right {
-        return Checked::Refused(Cause::GateWires);
+        return Err(Cause::GateWires);
     }
-    Checked::Legal
+    Ok(())
 }
 
 // `count` gates above a layer of `next` gates: the first that is bad.
-fn check_gates(gates: &[u32], count: usize, next: usize) -> Checked
+fn check_gates(gates: &[u32], count: usize, next: usize) -> Result<(), Cause>
     requires { 3 * count ≤ length gates.now }
     ensures { cause_of result ≡ gates_cause next (gates_of count gates.now) }
 {
     for i in 0..count {
         let g = 3 * i;
-        let checked = check_gate(gates[g], gates[g + 1], gates[g + 2], next);
-        if let Checked::Refused(cause) = checked {
-            return Checked::Refused(cause);
-        }
+        check_gate(gates[g], gates[g + 1], gates[g + 2], next)?;
     }
-    Checked::Legal
+    Ok(())
 }
 
 // All gates, layer by layer, where the list has as many words as its exponents call for.
-fn check_layers(circuit: &[u32]) -> Checked
+fn check_layers(circuit: &[u32]) -> Result<(), Cause>
     requires { Sized circuit.now }
     ensures { cause_of result ≡ layers_cause (exponents circuit.now) (gate_layers circuit.now) }
 {
@@ -73,42 +70,39 @@ fn check_layers(circuit: &[u32]) -> Checked
     let mut count = layout::width(layout::exponent(circuit, 0));
     for layer in 0..exponents.len() {
         let next = layout::width(exponents[layer]);
-        let checked = check_gates(&gates[3 * from..], count, next);
-        if let Checked::Refused(cause) = checked {
-            return Checked::Refused(cause);
-        }
+        check_gates(&gates[3 * from..], count, next)?;
         from += count;
         count = next;
     }
-    Checked::Legal
+    Ok(())
 }
 
 // Load: whether the list is a legal circuit, else the first refusal of 1 to 7.
-pub fn load(circuit: &[u32]) -> Checked
+pub fn load(circuit: &[u32]) -> Result<(), Cause>
     ensures { cause_of result ≡ load_answer circuit.now }
 {
     if !layout::has_header(circuit) {
-        return Checked::Refused(Cause::HeaderShort);
+        return Err(Cause::HeaderShort);
     }
     if !field::is_listed(layout::prime(circuit)) {
-        return Checked::Refused(Cause::PrimeUnlisted);
+        return Err(Cause::PrimeUnlisted);
     }
     let depth = layout::depth(circuit);
     if depth < 1 {
-        return Checked::Refused(Cause::DepthRange);
+        return Err(Cause::DepthRange);
     }
     if MAX_DEPTH < depth {
-        return Checked::Refused(Cause::DepthRange);
+        return Err(Cause::DepthRange);
     }
     let exponents = layout::exponents(circuit);
     if exponents.len() != depth {
-        return Checked::Refused(Cause::ExponentRange);
+        return Err(Cause::ExponentRange);
     }
     if !all_below(exponents, MAX_EXPONENT + 1) {
-        return Checked::Refused(Cause::ExponentRange);
+        return Err(Cause::ExponentRange);
     }
     if circuit.len() != layout::word_count(circuit) {
-        return Checked::Refused(Cause::WordCount);
+        return Err(Cause::WordCount);
     }
     check_layers(circuit)
 }
@@ -122,18 +116,15 @@ fn input_count(circuit: &[u32]) -> usize
 }
 
 // The refusals 1 to 9, with which every operation on a circuit and its input begins.
-pub fn check_lists(circuit: &[u32], input: &[u32]) -> Checked
+pub fn check_lists(circuit: &[u32], input: &[u32]) -> Result<(), Cause>
     ensures { cause_of result ≡ lists_cause circuit.now input.now }
 {
-    let loaded = load(circuit);
-    if let Checked::Refused(cause) = loaded {
-        return Checked::Refused(cause);
-    }
+    load(circuit)?;
     if input.len() != input_count(circuit) {
-        return Checked::Refused(Cause::InputCount);
+        return Err(Cause::InputCount);
     }
     if !all_below(input, layout::prime(circuit)) {
-        return Checked::Refused(Cause::InputWord);
+        return Err(Cause::InputWord);
     }
-    Checked::Legal
+    Ok(())
 }

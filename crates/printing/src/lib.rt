@@ -25,7 +25,7 @@ pub const MAX_WORDS: usize = MAX_BYTES / 4;
 pub fn write_refused(cause: Cause, text: &mut [u8]) -> usize
     ensures { Wrote (refused_text (number_of cause)) text.old text.new result }
 {
-    text::put_line(text, b"refused", &[refusal::number(cause)])
+    text::put_line(text, b"refused", &[u32::from(cause)])
 }
 
 // Reads arrays, as many as the given number, from no more bytes than may be read. No bytes hold more words than the array.

@@ -12,7 +12,7 @@ ghost use Rattle.prover.specs.Writing.{Provable, Writes};
 ghost use Rattle.prover.specs.Answers.{Proves, ProvesOne};
 
 use evaluation::MAX_VALUES;
-use refusal::{Cause, Checked};
+use refusal::Cause;
 
 // An output, and the number of message words that were written for it.
 #[derive(Clone, Copy)]
@@ -77,11 +77,11 @@ pub fn prove(circuit: &[u32], input: &[u32], coins: &[u32], messages: &mut [u32]
     ensures { Proves circuit.now input.now coins.now messages.old result messages.new }
 {
     let lists = legality::check_lists(circuit, input);
-    if let Checked::Refused(cause) = lists {
+    if let Err(cause) = lists {
         return Proved::Refused(cause);
     }
     let taken = standing::check_coins(circuit, coins);
-    if let Checked::Refused(cause) = taken {
+    if let Err(cause) = taken {
         return Proved::Refused(cause);
     }
     let short = messages.len() < standing::message_words(circuit);
@@ -120,7 +120,7 @@ pub fn prove_one(circuit: &[u32], input: &[u32], prefix: &[u32], buffer: &mut [u
     ensures { ProvesOne circuit.now input.now prefix.now buffer.old result buffer.new }
 {
     let lists = legality::check_lists(circuit, input);
-    if let Checked::Refused(cause) = lists {
+    if let Err(cause) = lists {
         return Message::Refused(cause);
     }
     if standing::coin_count(circuit) <= prefix.len() {

@@ -1,11 +1,9 @@
 -- The specification's number of each refusal.
 -- Assumes nothing.
-use Rattle.std.specs.Prelude.{ℕ}
+use Rattle.std.specs.Prelude.{ℕ, Result, Ok, Err}
 use Rattle.refusal.specs.declared.Cause.{Cause}
 use Rattle.refusal.specs.declared.Cause.TheVariants.{HeaderShort, PrimeUnlisted, DepthRange, ExponentRange, WordCount, GateKind, GateWires, InputCount, InputWord, BufferShort}
 use Rattle.refusal.specs.declared.Cause.TheVariants.{CoinCount, CoinWord, OutputWord, MessageLength, MessageWord, RoundDiffers, LineDiffers, InputDiffers, RecordUnfit, BytesUnfit}
-use Rattle.refusal.specs.declared.Checked.{Checked}
-use Rattle.refusal.specs.declared.Checked.TheVariants.{Legal, Refused}
 
 abbrev pub number_of : Cause → ℕ
 number_of HeaderShort = 1
@@ -29,7 +27,7 @@ number_of InputDiffers = 18
 number_of RecordUnfit = 19
 number_of BytesUnfit = 20
 
--- a refusal's number; 0 for legal lists
-abbrev pub cause_of : Checked → ℕ
-cause_of Legal = 0
-cause_of (Refused cause) = number_of cause
+-- the number of an answer that a refusal may stand in place of; 0 where none does
+abbrev pub cause_of : {A : Type 0} → Result A Cause → ℕ
+cause_of (Ok _) = 0
+cause_of (Err cause) = number_of cause

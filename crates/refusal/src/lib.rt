@@ -4,81 +4,54 @@
 ghost use Rattle.std.specs.Prelude.{◌≡◌};
 ghost use Rattle.refusal.specs.Number.{number_of};
 
-#[derive(Clone, Copy)]
+#[derive(Clone, Copy, PartialEq, Eq, Debug)]
 pub enum Cause {
     // Fewer than two words.
-    HeaderShort,
+    HeaderShort = 1,
     // The modulus is not one of the listed primes.
-    PrimeUnlisted,
+    PrimeUnlisted = 2,
     // The depth is out of range.
-    DepthRange,
+    DepthRange = 3,
     // The list ends before its exponents, or one is too large.
-    ExponentRange,
+    ExponentRange = 4,
     // The word count is not what the exponents call for.
-    WordCount,
+    WordCount = 5,
     // A gate's kind is unknown.
-    GateKind,
+    GateKind = 6,
     // A gate's wires are outside the next layer or out of order, or an empty gate has one.
-    GateWires,
+    GateWires = 7,
     // The input count is not the input layer's.
-    InputCount,
+    InputCount = 8,
     // An input word is not below p.
-    InputWord,
+    InputWord = 9,
     // A lent buffer is too short.
-    BufferShort,
+    BufferShort = 10,
     // The coin count is wrong.
-    CoinCount,
+    CoinCount = 11,
     // A coin is not below p.
-    CoinWord,
+    CoinWord = 12,
     // The output is not below p.
-    OutputWord,
+    OutputWord = 13,
     // A message, or all of them, has the wrong length.
-    MessageLength,
+    MessageLength = 14,
     // A message word is not below p.
-    MessageWord,
+    MessageWord = 15,
     // A sum round differs from the standing claim.
-    RoundDiffers,
+    RoundDiffers = 16,
     // The line message does not give the standing claim.
-    LineDiffers,
+    LineDiffers = 17,
     // The input's extension differs from the last claim.
-    InputDiffers,
+    InputDiffers = 18,
     // The session's record has ended or does not fit the circuit.
-    RecordUnfit,
+    RecordUnfit = 19,
     // The bytes are not the arrays that were called for.
-    BytesUnfit,
+    BytesUnfit = 20,
 }
 
-// What a check of lists finds.
-#[derive(Clone, Copy)]
-pub enum Checked {
-    Legal,
-    Refused(Cause),
-}
+impl From<Cause> for u32 {
+    ghost from_gives = { λ cause number. number ≡ number_of cause };
 
-// The number of a cause.
-pub fn number(cause: Cause) -> u32
-    ensures { result ≡ number_of cause }
-{
-    match cause {
-        Cause::HeaderShort => 1,
-        Cause::PrimeUnlisted => 2,
-        Cause::DepthRange => 3,
-        Cause::ExponentRange => 4,
-        Cause::WordCount => 5,
-        Cause::GateKind => 6,
-        Cause::GateWires => 7,
-        Cause::InputCount => 8,
-        Cause::InputWord => 9,
-        Cause::BufferShort => 10,
-        Cause::CoinCount => 11,
-        Cause::CoinWord => 12,
-        Cause::OutputWord => 13,
-        Cause::MessageLength => 14,
-        Cause::MessageWord => 15,
-        Cause::RoundDiffers => 16,
-        Cause::LineDiffers => 17,
-        Cause::InputDiffers => 18,
-        Cause::RecordUnfit => 19,
-        Cause::BytesUnfit => 20,
+    fn from(cause: Cause) -> u32 {
+        cause as u32
     }
 }

@@ -10,7 +10,7 @@ ghost use Rattle.protocol.specs.Rounds.{place};
 ghost use Rattle.session.specs.Answers.{record_of, opening_of, verdict_of, Fitting, GoesOn, StepsOpen, Steps};
 
 use field::Field;
-use refusal::{Cause, Checked};
+use refusal::Cause;
 
 // What a step answers.
 #[derive(Clone, Copy)]
@@ -48,14 +48,14 @@ pub fn open(circuit: &[u32], input: &[u32], output: u32, coins: &[u32]) -> Openi
     ensures { opening_of result ≡ open_answer circuit.now input.now output coins.now }
 {
     let lists = legality::check_lists(circuit, input);
-    if let Checked::Refused(cause) = lists {
+    if let Err(cause) = lists {
         return Opening::Refused(cause);
     }
     if layout::prime(circuit) <= output {
         return Opening::Refused(Cause::OutputWord);
     }
     let taken = standing::check_coins(circuit, coins);
-    if let Checked::Refused(cause) = taken {
+    if let Err(cause) = taken {
         return Opening::Refused(cause);
     }
     Opening::Opened(Session {
@@ -171,7 +171,7 @@ fn step_open(
     let round = session.round as usize;
     let n = standing::coins_before(circuit, layer) + round;
     let judged = judgement::judge(circuit, layer, round, &coins[..n], session.claim, message);
-    if let Checked::Refused(cause) = judged {
+    if let Err(cause) = judged {
         return Stepped {
             verdict: Verdict::Refused(cause),
             session: ended(session),
@@ -193,11 +193,11 @@ pub fn step(
     ensures { Steps circuit.now input.now coins.now session message.now result }
 {
     let lists = legality::check_lists(circuit, input);
-    if let Checked::Refused(cause) = lists {
+    if let Err(cause) = lists {
         return left(session, cause);
     }
     let taken = standing::check_coins(circuit, coins);
-    if let Checked::Refused(cause) = taken {
+    if let Err(cause) = taken {
         return left(session, cause);
     }
     if !fits(circuit, session) {

@@ -12,8 +12,7 @@ use borrow.Author.Tests.{eq-eqb, ne_eqb}
 use Rattle.lists.proofs.Count.{sum_nil, sum_take}
 use Rattle.refusal.specs.Number.{cause_of}
 use Rattle.refusal.specs.declared.Cause.{Cause}
-use Rattle.refusal.specs.declared.Checked.{Checked}
-use Rattle.refusal.specs.declared.Checked.TheVariants.{Legal, Refused}
+use Rattle.std.specs.Prelude.{⊤, Result, Ok, Err}
 use Rattle.refusal.proofs.Told.{refusal_told, none_told}
 use Rattle.circuit.specs.Circuit.{prime_of, depth, output_exponent, exponents, exponent_at, coin_count, message_words}
 use Rattle.circuit.specs.Legal.{all_below, lists_cause}
@@ -83,16 +82,16 @@ module _ (c cs : List ℕ) where
   coins_legal e w = rw (eq-eqb (length cs) (coin_count c) e, w) refl
 
 -- 1 to 9, then 11 and 12, as the two checks answer: a refusal of the coins, and none
-module _ (c input cs : List ℕ) {lists : Checked} (legal : lists ≡ Legal) (told : cause_of lists ≡ lists_cause c input) where
+module _ (c input cs : List ℕ) {lists : Result ⊤ Cause} {x : ⊤} (legal : lists ≡ Ok x) (told : cause_of lists ≡ lists_cause c input) where
   none : lists_cause c input ≡ 0
   none = none_told legal told
 
   circuit : LegalCircuit c
   circuit = (legal_lists c input none).circuit
 
-  module _ {coins : Checked} (checked : ChecksCoins c cs coins) where
-    pub coins_refused : {cause : Cause} → coins ≡ Refused cause → CoinsRefused c input cs cause
+  module _ {coins : Result ⊤ Cause} (checked : ChecksCoins c cs coins) where
+    pub coins_refused : {cause : Cause} → coins ≡ Err cause → CoinsRefused c input cs cause
     coins_refused e = record { lists = none; cause = refusal_told e (checked circuit) }
 
-    pub admitted : coins ≡ Legal → Admitted c input cs
+    pub admitted : {y : ⊤} → coins ≡ Ok y → Admitted c input cs
     admitted e = record { lists = none; coins = none_told e (checked circuit) }

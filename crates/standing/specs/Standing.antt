@@ -1,11 +1,11 @@
 -- Where a walk stands: conditions on a place and the coins before it, and what stands there.
 -- Assumes nothing.
-use Rattle.std.specs.Prelude.{ℕ, ◌+◌, ◌-◌, ◌*◌, ◌≤◌, ◌≡◌, List, map, length, take, drop}
+use Rattle.std.specs.Prelude.{ℕ, ◌+◌, ◌-◌, ◌*◌, ◌≤◌, ◌≡◌, ⊤, List, Result, map, length, take, drop}
 use Rattle.lists.specs.Count.{sum}
 use Rattle.lists.specs.Front.{Front}
 use Rattle.extension.specs.Limits.{row_length}
 use Rattle.refusal.specs.Number.{cause_of}
-use Rattle.refusal.specs.declared.Checked.{Checked}
+use Rattle.refusal.specs.declared.Cause.{Cause}
 use Rattle.circuit.specs.Circuit.{depth, exponents, exponent_at, coin_count, message_words}
 use Rattle.circuit.specs.Sized.{LegalCircuit}
 use Rattle.protocol.specs.Rounds.{place, layer_start, AtRound}
@@ -51,7 +51,7 @@ abbrev pub WordsOf : List ℕ → ℕ → Type 0
 WordsOf c n = LegalCircuit c → n ≡ message_words c
 
 -- the refusals 11 and 12, of a legal circuit
-abbrev pub ChecksCoins : List ℕ → List ℕ → Checked → Type 0
+abbrev pub ChecksCoins : List ℕ → List ℕ → Result ⊤ Cause → Type 0
 ChecksCoins c coins r = LegalCircuit c → cause_of r ≡ need_coins c coins 0
 
 -- a stand's exponents are no more than a row holds

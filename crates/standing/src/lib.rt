@@ -11,7 +11,7 @@ ghost use Rattle.standing.specs.Standing.{Row, PointStands, SumBefore, CoinsBefo
 use extension::MAX_COORDINATES;
 use field::Field;
 use layout::MAX_DEPTH;
-use refusal::{Cause, Checked};
+use refusal::Cause;
 
 // Whether a round is its layer's line.
 pub fn is_line(circuit: &[u32], layer: usize, round: usize) -> bool
@@ -72,16 +72,16 @@ pub fn message_words(circuit: &[u32]) -> usize
 }
 
 // The refusals 11 and 12.
-pub fn check_coins(circuit: &[u32], coins: &[u32]) -> Checked
+pub fn check_coins(circuit: &[u32], coins: &[u32]) -> Result<(), Cause>
     ensures { ChecksCoins circuit.now coins.now result }
 {
     if coins.len() != coin_count(circuit) {
-        return Checked::Refused(Cause::CoinCount);
+        return Err(Cause::CoinCount);
     }
     if !legality::all_below(coins, layout::prime(circuit)) {
-        return Checked::Refused(Cause::CoinWord);
+        return Err(Cause::CoinWord);
     }
-    Checked::Legal
+    Ok(())
 }
 
 // A point's coordinates in a row; of more than its length, the first.

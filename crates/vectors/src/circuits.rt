@@ -1,15 +1,14 @@
 // Cases of load and evaluate.
 use crate::MAX_WORDS;
 use evaluation::Evaluated;
-use refusal::Checked;
 use std::io::{Result, Write};
 
 pub fn load<W: Write>(output: &mut W, lists: &[u32]) -> Result<()> {
     match legality::load(cases::list(lists, 0)) {
-        Checked::Legal => {
+        Ok(()) => {
             output.write_all(b"legal")?;
         }
-        Checked::Refused(cause) => {
+        Err(cause) => {
             cases::print_refused(output, cause)?;
         }
     }

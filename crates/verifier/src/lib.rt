@@ -8,7 +8,7 @@ ghost use Rattle.protocol.specs.Check.{Counted, walk_from, check_answer};
 ghost use Rattle.verifier.specs.Answers.{outcome_of, Walkable};
 
 use field::Field;
-use refusal::{Cause, Checked};
+use refusal::Cause;
 use session::Opening;
 
 // What a whole check answers.
@@ -48,7 +48,7 @@ fn walk(circuit: &[u32], input: &[u32], first: u32, coins: &[u32], messages: &[u
             let end = at + standing::message_length(circuit, layer, round);
             let message = &messages[at..end];
             let judged = judgement::judge(circuit, layer, round, &coins[..n], claim, message);
-            if let Checked::Refused(cause) = judged {
+            if let Err(cause) = judged {
                 break 'walk Outcome::Refused(cause);
             }
             claim = polynomial::value_at(f, message, coins[n]);

@@ -22,9 +22,9 @@ place : (c input : List ℕ) (d r : ℕ) → lists_cause c input ≡ 0 → d ≡
 place c input d r e deep b =
     b.counted (layer_of c (legal_lists c input e).circuit d (le_of_eq deep)) ∙ ap (gates_before c) deep
 
-pub returns-in-Refused : goal.returns-in-Refused
-returns-in-Refused c =
-    left_lists _ _ _ c.in-Refused.cause (refusal_told c.in-Refused.is c.check_lists-checked.ensures)
+pub returns-in-Err : goal.returns-in-Err
+returns-in-Err c =
+    left_lists _ _ _ c.in-Err.cause (refusal_told c.in-Err.is c.check_lists-checked.ensures)
 
 pub overflow_add-total : goal.overflow_add-total
 overflow_add-total c =

@@ -10,4 +10,4 @@ returns-in-Opened c =
 
 pub returns-in-Refused : goal.returns-in-Refused
 returns-in-Refused c =
-    export_refused _ _ _ _ _ c.in-Refused.cause (told opening_of c.in-Refused.is c.open-opening.ensures) _ c.number.ensures
+    export_refused _ _ _ _ _ c.in-Refused.cause (told opening_of c.in-Refused.is c.open-opening.ensures) _ c.from.ensures

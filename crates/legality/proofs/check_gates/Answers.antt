@@ -3,7 +3,7 @@ use Prim.Native.Nat.{ℕ}
 use mathlib.Core.Path.{sym, ap, ◌∙◌}
 use native.Mathlib.Nat.{sub-zero}
 use Rattle.refusal.proofs.Order.{refused_first, legal_first}
-use Rattle.refusal.proofs.Told.{refusal_told, none_told}
+use Rattle.refusal.proofs.Told.{passed_on}
 use Rattle.circuit.specs.Circuit.{gates_of}
 use Rattle.circuit.specs.Legal.{gates_cause}
 use Rattle.circuit.proofs.Legal.{gates_at_lem, gates_end}
@@ -15,18 +15,18 @@ loop-i-init c =
     let a = c.args in
     (search rules, ap (λ (n : ℕ). gates_cause a.next (gates_of n a.gates.now)) (sym (sub-zero a.count)))
 
-pub returns-in-Refused : goal.returns-in-Refused
-returns-in-Refused c =
+pub returns-in_err-check_gate : goal.returns-in_err-check_gate
+returns-in_err-check_gate c =
     let a = c.args in
-    sym (c.loop-i.invariant.1 ∙ gates_at_lem a.next a.count c.loop-i.i a.gates.now (search rules)
-    ∙ refused_first c.in-Refused.cause _ _ (refusal_told c.in-Refused.is c.check_gate-checked.ensures))
+    let r = c.in_err-check_gate in
+    passed_on _ _ c.from_residual.ensures.1
+    (sym (c.loop-i.invariant.1 ∙ gates_at_lem a.next a.count c.loop-i.i a.gates.now (search rules) ∙ refused_first r.field-0.0 _ _ r.ensures))
 
 pub loop-i-preserved : goal.loop-i-preserved
 loop-i-preserved c =
     let a = c.args in (
       search rules,
-      c.loop-i.invariant.1 ∙ gates_at_lem a.next a.count c.loop-i.i a.gates.now (search rules)
-          ∙ legal_first _ _ (none_told c.in_default.is c.check_gate-checked.ensures),
+      c.loop-i.invariant.1 ∙ gates_at_lem a.next a.count c.loop-i.i a.gates.now (search rules) ∙ legal_first _ _ (sym c.in_ok-check_gate.ensures),
     )
 
 pub returns : goal.returns

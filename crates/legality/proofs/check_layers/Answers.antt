@@ -3,7 +3,7 @@ use Prim.Native.Nat.{◌+◌, ◌<◌}
 use mathlib.Core.Path.{sym, ap, ◌∙◌}
 use native.Mathlib.Omega.{arith}
 use lib.ListN.{length}
-use Rattle.refusal.proofs.Told.{refusal_told, none_told}
+use Rattle.refusal.proofs.Told.{passed_on}
 use Rattle.circuit.specs.Circuit.{depth, width_of}
 use Rattle.circuit.proofs.Sized.{exponent_width, exponent_next}
 use Rattle.circuit.proofs.Gates.{gates_lent}
@@ -36,19 +36,21 @@ slice_bounds-check_gates-count c =
     let r = layer_room _ c.requires _ _ _ c.loop-layer.invariant.1 (omega (arith, c.loop-layer.invariant.0)) c.all_gates-gates.result.now c.all_gates-gates.ensures in
     omega arith
 
-pub check_gates-checked-requires : goal.check_gates-checked-requires
-check_gates-checked-requires c =
+pub check_gates-requires : goal.check_gates-requires
+check_gates-requires c =
     rw (gates_lent c.args.circuit.now c.all_gates-gates.result.now c.loop-layer.from c.all_gates-gates.ensures)
     (layer_there _ c.requires _ _ _ c.loop-layer.invariant.1 (omega (arith, c.loop-layer.invariant.0)))
 
-pub returns-in-Refused : goal.returns-in-Refused
-returns-in-Refused c =
+pub returns-in_err-check_gates : goal.returns-in_err-check_gates
+returns-in_err-check_gates c =
     let l = c.args.circuit.now in
     let low : c.loop-layer.layer < depth l = omega (arith, c.loop-layer.invariant.0) in
     let next = c.width-next.ensures ∙ ap width_of (exponent_next l _ c.loop-layer.layer c.exponents-exponents.ensures)
     ∙ exponent_width l (c.loop-layer.layer + 1) (record { headed = c.requires.headed; inside = omega arith }) in
-    sym (layer_refused _ c.requires _ _ _ c.loop-layer.invariant.1 low _ next c.in-Refused.cause
-    (refusal_told c.in-Refused.is (rw (gates_lent c.args.circuit.now c.all_gates-gates.result.now c.loop-layer.from c.all_gates-gates.ensures) at c.check_gates-checked.ensures)))
+    let r = c.in_err-check_gates in
+    passed_on _ _ c.from_residual.ensures.1
+    (sym (layer_refused _ c.requires _ _ _ c.loop-layer.invariant.1 low _ next r.field-0.0
+    (rw (gates_lent l c.all_gates-gates.result.now c.loop-layer.from c.all_gates-gates.ensures) at r.ensures)))
 
 pub overflow_add-from : goal.overflow_add-from
 overflow_add-from c =
@@ -63,7 +65,7 @@ loop-layer-preserved c =
     ∙ exponent_width l (c.loop-layer.layer + 1) (record { headed = c.requires.headed; inside = omega arith }) in (
       c.loop-layer.invariant.0,
       layer_legal _ c.requires _ _ _ c.loop-layer.invariant.1 low _ next
-          (none_told c.in_default.is (rw (gates_lent c.args.circuit.now c.all_gates-gates.result.now c.loop-layer.from c.all_gates-gates.ensures) at c.check_gates-checked.ensures)),
+          (sym (rw (gates_lent l c.all_gates-gates.result.now c.loop-layer.from c.all_gates-gates.ensures) at c.in_ok-check_gates.ensures)),
     )
 
 pub returns : goal.returns

@@ -7,4 +7,4 @@ use Rattle.printing.proofs.write_refused.Goals as goal
 
 pub returns : goal.returns
 unfolding refused_text
-returns c = wrote_as _ _ _ _ c.put_line.ensures _ (ap (λ (n : ℕ). line_text (ascii "refused") (n ∷ [])) c.number.ensures)
+returns c = wrote_as _ _ _ _ c.put_line.ensures _ (ap (λ (n : ℕ). line_text (ascii "refused") (n ∷ [])) c.from.ensures)

@@ -6,12 +6,12 @@ use Rattle.standing.proofs.Coins.{coins_refused, admitted}
 use Rattle.prover.proofs.Proving.{whole_lists, whole_coins, whole_short, provable, whole_written}
 use Rattle.prover.proofs.prove.Goals as goal
 
-pub returns-in-Refused : goal.returns-in-Refused
-returns-in-Refused c = whole_lists _ _ _ _ _ (refusal_told c.in-Refused.is c.check_lists-lists.ensures)
+pub returns-in-Err : goal.returns-in-Err
+returns-in-Err c = whole_lists _ _ _ _ _ (refusal_told c.in-Err.is c.check_lists-lists.ensures)
 
-pub returns-in-Refused-taken : goal.returns-in-Refused-taken
-returns-in-Refused-taken c =
-    whole_coins _ _ _ _ _ (coins_refused _ _ _ c.in_default.is c.check_lists-lists.ensures c.check_coins-taken.ensures c.in-Refused-taken.is)
+pub returns-in-Err-taken : goal.returns-in-Err-taken
+returns-in-Err-taken c =
+    whole_coins _ _ _ _ _ (coins_refused _ _ _ c.in_default.is c.check_lists-lists.ensures c.check_coins-taken.ensures c.in-Err-taken.is)
 
 pub returns-then-short : goal.returns-then-short
 returns-then-short c =

@@ -13,8 +13,8 @@ use Rattle.prover.proofs.Values.{writable}
 use Rattle.prover.proofs.Following.{Due, one_lists, one_count, one_word, one_short, one_written}
 use Rattle.prover.proofs.prove_one.Goals as goal
 
-pub returns-in-Refused : goal.returns-in-Refused
-returns-in-Refused c = one_lists _ _ _ _ _ (refusal_told c.in-Refused.is c.check_lists-lists.ensures)
+pub returns-in-Err : goal.returns-in-Err
+returns-in-Err c = one_lists _ _ _ _ _ (refusal_told c.in-Err.is c.check_lists-lists.ensures)
 
 pub returns-then-coin_count-prefix : goal.returns-then-coin_count-prefix
 returns-then-coin_count-prefix c =

@@ -6,15 +6,15 @@ use Rattle.standing.proofs.Coins.{coins_refused, admitted}
 use Rattle.session.proofs.Coming.{left_lists, left_coins, left_record, fitting, steps_open}
 use Rattle.session.proofs.step.Goals as goal
 
-pub returns-in-Refused : goal.returns-in-Refused
-returns-in-Refused c =
-    left_lists _ _ _ _ _ c.in-Refused.cause _ c.left.ensures.0 c.left.ensures.1
-    (refusal_told c.in-Refused.is c.check_lists-lists.ensures)
+pub returns-in-Err : goal.returns-in-Err
+returns-in-Err c =
+    left_lists _ _ _ _ _ c.in-Err.cause _ c.left.ensures.0 c.left.ensures.1
+    (refusal_told c.in-Err.is c.check_lists-lists.ensures)
 
-pub returns-in-Refused-taken : goal.returns-in-Refused-taken
-returns-in-Refused-taken c =
-    left_coins _ _ _ _ _ c.in-Refused-taken.cause _ c.left-in-Refused-taken.ensures.0 c.left-in-Refused-taken.ensures.1
-    (coins_refused _ _ _ c.in_default.is c.check_lists-lists.ensures c.check_coins-taken.ensures c.in-Refused-taken.is)
+pub returns-in-Err-taken : goal.returns-in-Err-taken
+returns-in-Err-taken c =
+    left_coins _ _ _ _ _ c.in-Err-taken.cause _ c.left-in-Err-taken.ensures.0 c.left-in-Err-taken.ensures.1
+    (coins_refused _ _ _ c.in_default.is c.check_lists-lists.ensures c.check_coins-taken.ensures c.in-Err-taken.is)
 
 pub fits-requires : goal.fits-requires
 fits-requires c =

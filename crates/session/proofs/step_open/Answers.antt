@@ -16,11 +16,11 @@ slice_bounds-judge-end c =
     let there = coin_inside _ _ _ _ c.requires _ (number_is _ _ _ _ c.requires c.coins_before.ensures) in
     sym (length-take-le _ _ (omega arith))
 
-pub returns-in-Refused : goal.returns-in-Refused
-returns-in-Refused c =
+pub returns-in-Err : goal.returns-in-Err
+returns-in-Err c =
     let counted = number_is _ _ _ _ c.requires c.coins_before.ensures in
     let judged = c.judge-judged.ensures (at_round _ _ _ _ c.requires _ counted) in
-    refused_open _ _ _ _ c.requires _ counted c.args.message.now c.in-Refused.cause (refusal_told c.in-Refused.is judged) _ refl c.ended.ensures
+    refused_open _ _ _ _ c.requires _ counted c.args.message.now c.in-Err.cause (refusal_told c.in-Err.is judged) _ refl c.ended.ensures
 
 pub offset_bounds-coins-n : goal.offset_bounds-coins-n
 offset_bounds-coins-n c = let few = coins_few _ _ _ _ c.requires _ (number_is _ _ _ _ c.requires c.coins_before.ensures) in omega arith

@@ -63,8 +63,8 @@ pub returns-then-depth-layer : goal.returns-then-depth-layer
 returns-then-depth-layer c =
     c.finish.ensures ∙ walk_ends _ c.requires c.walk.invariant (omega (arith, c.if-depth-layer.true, c.depth-depth.ensures.0))
 
-pub returns-in-Refused : goal.returns-in-Refused
-returns-in-Refused c =
+pub returns-in-Err : goal.returns-in-Err
+returns-in-Err c =
     let d = due _ c.requires c.loop-round.invariant.1 c.loop-round.invariant.0 c.loop-round-test.true in
     let wide = c.message_length in
-    round_refuses _ d wide.result wide.ensures c.in-Refused.cause (refusal_told c.in-Refused.is (c.judge-judged.ensures (round_place _ d)))
+    round_refuses _ d wide.result wide.ensures c.in-Err.cause (refusal_told c.in-Err.is (c.judge-judged.ensures (round_place _ d)))
