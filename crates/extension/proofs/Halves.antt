@@ -1,4 +1,4 @@
--- Halving from the parts of slices that the code lends on.
+-- Halving from the rest of a point as the code lends it on.
 -- Assumes nothing.
 use mathlib.Core.Path.{◌≡◌, refl, sym, ap₂, ◌∙◌}
 use mathlib.Core.List.{List}
@@ -9,11 +9,9 @@ use Rattle.algebra.specs.Numbers.{Numbers}
 use Rattle.multilinear.specs.Extension.{between, halving}
 use Rattle.multilinear.proofs.Halving.{halving_step}
 
-pub from_parts : {C : Type 0} (N : Numbers C) (vs z : List C) (d low high : C) → 0 < length z
+pub from_halves : {C : Type 0} (N : Numbers C) (vs z : List C) (d low high : C) → 0 < length z
     → low ≡ halving N (take (length vs / 2) vs) (take (length z - 1) (drop 1 z))
-    → high ≡ halving N (take (length vs - length vs / 2) (drop (length vs / 2) vs)) (take (length z - 1) (drop 1 z))
-    → between N (get_or z 0 d) low high ≡ halving N vs z
-from_parts N vs z d low high h l e =
+    → high ≡ halving N (drop (length vs / 2) vs) (take (length z - 1) (drop 1 z)) → between N (get_or z 0 d) low high ≡ halving N vs z
+from_halves N vs z d low high h l e =
     let rest = rest_lent z 1 (length z) refl in
-    let upper = rest_lent vs (length vs / 2) (length vs) refl in
-    ap₂ (between N (get_or z 0 d)) (rw rest at l) (rw (upper, rest) at e) ∙ sym (halving_step N vs z d h)
+    ap₂ (between N (get_or z 0 d)) (rw rest at l) (rw rest at e) ∙ sym (halving_step N vs z d h)

@@ -12,6 +12,7 @@ use field::Field;
 pub const MAX_COORDINATES: usize = 8;
 
 // (1 - z) × low + z × high, by one product: low + z × (high - low)
+#[tactic(auto, using(multilinear::proofs::Slope::by_slope))]
 fn between(f: Field, z: u32, low: u32, high: u32) -> u32
     ensures { result ≡ between (numbers f) z low high }
 {
@@ -20,19 +21,17 @@ fn between(f: Field, z: u32, low: u32, high: u32) -> u32
 
 // The extension of the values at the point, from those of their halves; the number of coordinates that remain falls. With no coordinate
 // it is the first value.
+#[tactic(auto, using(multilinear::proofs::Halving::halving_none))]
 pub fn extend(f: Field, values: &[u32], point: &[u32]) -> u32
     ensures { result ≡ halving (numbers f) values.now point.now }
 {
-    if point.len() == 0 {
-        if values.len() == 0 {
-            return Field::ZERO;
-        }
-        return values[0];
-    }
-    let half = values.len() / 2;
-    let low = extend(f, &values[..half], &point[1..]);
-    let high = extend(f, &values[half..], &point[1..]);
-    between(f, point[0], low, high)
+    let [z, rest @ ..] = point else {
+        return values.first().copied().unwrap_or(Field::ZERO);
+    };
+    let (lower, upper) = values.split_at(values.len() / 2);
+    let low = extend(f, lower, rest);
+    let high = extend(f, upper, rest);
+    between(f, *z, low, high)
 }
 
 // The weight of an index at the point. The lowest bit belongs to the last coordinate, so the product is built from there. Both factors are
@@ -42,14 +41,11 @@ pub fn weight_of(f: Field, index: usize, point: &[u32]) -> u32
 {
     let mut product = Field::ONE;
     let mut rest = index;
-    let mut left = point.len();
-    while 0 < left {
-        left -= 1;
-        let z = point[left];
+    for &z in point.iter().rev() {
         let complement = f.sub(Field::ONE, z);
         let factor = if rest % 2 == 1 { z } else { complement };
         product = f.mul(factor, product);
-        rest = rest / 2;
+        rest /= 2;
     }
     product
 }

@@ -1,37 +1,19 @@
--- Horner's rule from the last coefficient: with `left` coefficients to come, the value is that of the coefficients passed.
+-- Horner's rule is a fold from the last coefficient: its value over a list with one more in front is one step more.
 -- Assumes nothing.
-use mathlib.Core.Path.{◌≡◌, sym, ap, ◌∙◌}
-use mathlib.Core.List.{List}
-use Prim.Native.Nat.{ℕ, ◌-◌, ◌≤◌, ◌<◌}
-use native.Mathlib.Omega.{arith}
-use lib.ListN.{length, drop, get_or, drop_of_length-le}
-use Rattle.lists.proofs.Steps.{drop_down}
+use mathlib.Core.Path.{◌≡◌, refl, ap, ◌∙◌}
+use mathlib.Core.List.{List, [], ◌∷◌, reverse}
+use Rattle.std.specs.List.{fold}
+use Rattle.std.proofs.lemmas.List.{reverse-append}
+use Rattle.std.proofs.lemmas.List.Sums.{fold-append}
 use Rattle.algebra.specs.Numbers.{Numbers}
 use Rattle.algebra.specs.Polynomial.{value_at}
 
-module _ {C : Type 0} (N : Numbers C) where
-  pub record Horner (coefficients : List C) (x value : C) (left : ℕ) : Type 0 where
-    pub within : left ≤ length coefficients
-    pub passed : value ≡ value_at N (drop left coefficients) x
+module _ {C : Type 0} (N : Numbers C) (x : C) where
+  abbrev pub step : C → C → C
+  step value c = N.add c (N.mul x value)
 
-  pub start : (coefficients : List C) (x : C) → Horner coefficients x N.𝟘 (length coefficients)
+  pub from_last : (coefficients : List C) → fold step N.𝟘 (reverse coefficients) ≡ value_at N coefficients x
   unfolding value_at
-  start coefficients x = record {
-    within = omega arith;
-    passed = sym (ap (λ (l : List C). value_at N l x) (drop_of_length-le coefficients {i = length coefficients} (omega arith)));
-  }
-
-  pub step : (coefficients : List C) (d x value next : C) (left : ℕ) → Horner coefficients x value left → 0 < left
-      → next ≡ N.add (get_or coefficients (left - 1) d) (N.mul x value)
-      → Horner coefficients x next (left - 1)
-  unfolding value_at
-  step coefficients d x value next left h more e =
-      let within = h.within in
-      record {
-        within = omega arith;
-        passed = rw (drop_down coefficients left d more within) (e ∙ ap (λ (y : C). N.add (get_or coefficients (left - 1) d) (N.mul x y)) h.passed);
-      }
-
-  pub end : (coefficients : List C) (x value : C) (left : ℕ) → Horner coefficients x value left → left ≡ 0
-      → value ≡ value_at N coefficients x
-  end coefficients x value left h e = h.passed ∙ ap (λ (n : ℕ). value_at N (drop n coefficients) x) e
+  from_last [] = refl
+  from_last (c ∷ f) =
+      ap (fold step N.𝟘) (reverse-append (c ∷ []) f) ∙ fold-append step N.𝟘 (reverse f) (c ∷ []) ∙ ap (λ (y : C). step y c) (from_last f)

@@ -11,12 +11,8 @@ use field::Field;
 pub fn value_at(f: Field, coefficients: &[u32], x: u32) -> u32
     ensures { result ≡ value_at (numbers f) coefficients.now x }
 {
-    let mut value = Field::ZERO;
-    let mut left = coefficients.len();
-    while 0 < left {
-        left -= 1;
-        let c = coefficients[left];
-        value = f.add(c, f.mul(x, value));
-    }
-    value
+    coefficients
+        .iter()
+        .rev()
+        .fold(Field::ZERO, |value, &c| f.add(c, f.mul(x, value)))
 }

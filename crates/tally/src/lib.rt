@@ -5,16 +5,13 @@ ghost use Rattle.std.specs.Prelude.{◌≡◌, ℕ, ◌%◌, ◌^◌, ◌<◌};
 ghost use Rattle.field.specs.Modulus.{modulus, numbers};
 ghost use Rattle.tally.specs.Tally.{tallied};
 
-use field::Field;
+use field::{Field, WORD};
 
 // What a half stays below: no sum of 2^30 products needs a reduction on the way.
-const ROOM: u64 = 4611686018427387904;
-
-// 2^32: a product is parted into two words by it.
-const WORD: u64 = 4294967296;
+const ROOM: u64 = 1 << 62;
 
 // A sum of products: their high words are summed in one half and their low words in the other.
-#[derive(Clone, Copy)]
+#[derive(Clone, Copy, PartialEq, Eq, Debug)]
 pub struct Tally {
     pub high: u64,
     pub low: u64,
@@ -25,12 +22,14 @@ fn with_room(f: Field, half: u64) -> u64
     ensures { (result < 2 ^ 62) × (result % modulus f ≡ half % modulus f) }
 {
     if half < ROOM {
-        return half;
+        half
+    } else {
+        u64::from(f.remainder(half))
     }
-    f.remainder(half) as u64
 }
 
 impl Tally {
+    #[tactic(auto, unfolding(crate::specs::Tally::tallied))]
     pub fn empty() -> Tally
         ensures { (p : ℕ) → tallied p result ≡ 0 }
     {
@@ -38,10 +37,11 @@ impl Tally {
     }
 
     // One product more.
+    #[tactic(auto, using(crate::proofs::Halves::one_more), unfolding(crate::specs::Tally::tallied))]
     pub fn plus(self, f: Field, a: u32, b: u32) -> Tally
         ensures { tallied (modulus f) result ≡ (numbers f).add ((numbers f).mul a b) (tallied (modulus f) self) }
     {
-        let product = a as u64 * b as u64;
+        let product = u64::from(a) * u64::from(b);
         Tally {
             high: with_room(f, self.high) + product / WORD,
             low: with_room(f, self.low) + product % WORD,
@@ -49,10 +49,11 @@ impl Tally {
     }
 
     // The residue of the sum: what the low words come to above a word is carried, so two divisions are enough.
+    #[tactic(auto, using(crate::proofs::Halves::all_of), unfolding(crate::specs::Tally::tallied))]
     pub fn residue(self, f: Field) -> u32
         ensures { result ≡ tallied (modulus f) self }
     {
         let high = with_room(f, self.high) + self.low / WORD;
-        f.remainder(f.remainder(high) as u64 * WORD + self.low % WORD)
+        f.remainder(u64::from(f.remainder(high)) * WORD + self.low % WORD)
     }
 }

@@ -1,22 +1,32 @@
--- `weight_of` meets its contract. The loop keeps `Product`: the factors of the coordinates passed, from the last on, and the bits not yet used.
-use Rattle.std.proofs.Common.{rules, get_or, ◌-◌, ◌∙◌}
+-- `weight_of` meets its contract. The loop keeps `Product`: the weight at the coordinates passed, from the last on, and the bits not yet used.
+use Rattle.std.proofs.Common.{rules, Bor, ℕ, reverse, ap, ◌∙◌}
+use Rattle.std.proofs.lemmas.List.{reverse-reverse}
+use Rattle.std.proofs.lemmas.Iterator.Adapters.{YieldsList-from_rev_slice}
+use Rattle.std.proofs.lemmas.Iterator.Consumers.{YieldsList-end}
 use Rattle.field.specs.Modulus.{numbers}
-use Rattle.extension.proofs.Product.{start, factor_one, factor_zero, step}
+use Rattle.multilinear.specs.Extension.{weight}
+use Rattle.extension.proofs.Product.{start, factor_one, factor_zero, step, one_passed}
 use Rattle.extension.proofs.weight_of.Goals as goal
 use Rattle.extension.proofs.weight_of.Goals.{then-rest-eq1, else-rest-eq1}
 
-pub loop-left-init : goal.loop-left-init
-loop-left-init c = start _ _ _
+pub loop-z-init : goal.loop-z-init
+loop-z-init c = start _ _
 
-pub loop-left-preserved : goal.loop-left-preserved
-loop-left-preserved c =
+pub loop-z-preserved : goal.loop-z-preserved
+loop-z-preserved c =
     let N = numbers c.args.f in
     let factor = c.if-rest-eq1.factor in
-    let rest = c.loop-left.rest in
-    let z = get_or c.args.point.now (c.loop-left.left - 1) 0 in
-    rw c.mul-product.ensures
-    (step _ _ _ factor _ rest _ c.loop-left.invariant (search rules)
+    let rest = c.loop-z.rest in
+    rw (one_passed (λ (z : Bor ℕ). z.now) c.loop-z.yielded c.in-Some.field-0, c.mul-product.ensures)
+    (step N _ _ factor _ _ rest c.loop-z.invariant
     (elim c.if-rest-eq1.branch [
-      | then-rest-eq1 w ↦ factor_one N rest factor z w.if-rest-eq1.true w.factor-is
-      | else-rest-eq1 w ↦ factor_zero N rest factor z w.if-rest-eq1.false (w.factor-is ∙ search rules)
+      | then-rest-eq1 w ↦ factor_one N rest factor _ w.if-rest-eq1.true (w.factor-is ∙ search rules)
+      | else-rest-eq1 w ↦ factor_zero N rest factor _ w.if-rest-eq1.false (w.factor-is ∙ search rules)
     ]))
+
+pub returns : goal.returns
+returns c =
+    let point = c.args.point.now in
+    let all = YieldsList-end (YieldsList-from_rev_slice point cc) c.loop-z.yielded _ c.loop-z.yielded_by _ _ c.in-None.is c.next.ensures.steps in
+    c.loop-z.invariant.weighs ∙ ap (λ l. weight (numbers c.args.f) c.args.index (reverse l)) all.0
+    ∙ ap (weight (numbers c.args.f) c.args.index) (reverse-reverse point)
