@@ -4,8 +4,6 @@
 ghost use Rattle.text.specs.Wrote.{Wrote};
 ghost use Rattle.evaluate_text.specs.Output.{lists_text};
 
-use evaluation::Evaluated;
-
 // Writes what is printed for these lists. The buffer holds the values of every circuit, so that none is refused by 10.
 pub fn write_lists(circuit: &[u32], input: &[u32], text: &mut [u8]) -> usize
     ensures { Wrote (lists_text circuit.now input.now) text.old text.new result }
@@ -13,7 +11,7 @@ pub fn write_lists(circuit: &[u32], input: &[u32], text: &mut [u8]) -> usize
     let mut values = [0u32; evaluation::MAX_VALUES];
     let evaluated = evaluation::evaluate(circuit, input, &mut values);
     match evaluated {
-        Evaluated::Refused(cause) => printing::write_refused(cause, text),
-        Evaluated::Output(output) => text::put_line(text, b"output", &[output]),
+        Err(cause) => printing::write_refused(cause, text),
+        Ok(output) => text::put_line(text, b"output", &[output]),
     }
 }

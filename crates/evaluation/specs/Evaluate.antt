@@ -1,15 +1,14 @@
 -- The operation Evaluate: its answer by its case, and the whole buffer.
 -- Assumes nothing.
-use Rattle.std.specs.Prelude.{ℕ, zero, suc, ◌≡◌, cond, eqb, leb, length}
+use Rattle.std.specs.Prelude.{ℕ, zero, suc, ◌≡◌, cond, Result, Ok, Err, eqb, leb, length}
 use mathlib.Core.List.{List, flatten}
 use Rattle.lists.specs.Buffer.{over}
 use Rattle.refusal.specs.Number.{number_of}
+use Rattle.refusal.specs.declared.Cause.{Cause}
 use Rattle.refusal.specs.Order.{need, first}
 use Rattle.circuit.specs.Circuit.{value_count}
 use Rattle.circuit.specs.Legal.{lists_cause}
 use Rattle.circuit.specs.Values.{layers, value}
-use Rattle.evaluation.specs.declared.Evaluated.{Evaluated}
-use Rattle.evaluation.specs.declared.Evaluated.TheVariants.{Output, Refused}
 
 -- EVALUATE: "1 to 7; 8; 9; 10 value buffer too short. It answers the output; the buffer begins with layers 0 to D, the rest unchanged."
 unfoldable pub evaluate_cause : List ℕ → List ℕ → List ℕ → ℕ
@@ -31,11 +30,11 @@ unfoldable pub evaluate_buffer : List ℕ → List ℕ → List ℕ → List ℕ
 evaluate_buffer c input buffer =
     cond (eqb (evaluate_cause c input buffer) 0) (over (flatten (layers c input)) buffer) buffer
 
--- the answer that each case of the code's enum stands for
-abbrev pub evaluation_of : Evaluated → Evaluation
-evaluation_of (Output v) = output v
-evaluation_of (Refused cause) = refused (number_of cause)
+-- the answer that a result stands for
+abbrev pub evaluation_of : Result ℕ Cause → Evaluation
+evaluation_of (Ok v) = output v
+evaluation_of (Err cause) = refused (number_of cause)
 
-pub record Evaluates (c input before : List ℕ) (r : Evaluated) (after : List ℕ) : Type 0 where
+pub record Evaluates (c input before : List ℕ) (r : Result ℕ Cause) (after : List ℕ) : Type 0 where
   pub answer : evaluation_of r ≡ evaluate_answer c input before
   pub buffer : after ≡ evaluate_buffer c input before

@@ -69,27 +69,17 @@ fn all_values(circuit: &[u32], input: &[u32], place: usize) -> [u32; MAX_VALUES]
     values
 }
 
-// What an evaluation answers.
-#[derive(Clone, Copy)]
-pub enum Evaluated {
-    Output(u32),
-    Refused(Cause),
-}
-
 // Evaluate: the output, with the values of layers 0 to D at the front of the buffer, or the first refusal of 1 to 10.
-pub fn evaluate(circuit: &[u32], input: &[u32], buffer: &mut [u32]) -> Evaluated
+pub fn evaluate(circuit: &[u32], input: &[u32], buffer: &mut [u32]) -> Result<u32, Cause>
     ensures { Evaluates circuit.now input.now buffer.old result buffer.new }
 {
-    let checked = legality::check_lists(circuit, input);
-    if let Err(cause) = checked {
-        return Evaluated::Refused(cause);
-    }
+    legality::check_lists(circuit, input)?;
     let place = layout::gates_before(circuit, layout::depth(circuit));
     let total = place + input.len();
     if buffer.len() < total {
-        return Evaluated::Refused(Cause::BufferShort);
+        return Err(Cause::BufferShort);
     }
     let values = all_values(circuit, input, place);
     lists::put(buffer, &values[..total]);
-    Evaluated::Output(values[0])
+    Ok(values[0])
 }

@@ -10,7 +10,6 @@ ghost use Rattle.session.specs.Answers.{record_of, verdict_of};
 ghost use Rattle.kidlothe.specs.Record.{session_of, session_words, words_of_step};
 ghost use Rattle.kidlothe.specs.Answers.{plain_step, ExportsEvaluate, ExportsRead, ExportsProve, ExportsProveOne, ExportsOpen, ExportsStep};
 
-use evaluation::Evaluated;
 use prover::{Message, Proved};
 use session::{Opening, Session, Verdict};
 use verifier::Outcome;
@@ -83,8 +82,8 @@ pub fn kidlothe_evaluate(circuit: &[u32], input: &[u32], buffer: &mut [u32]) -> 
 {
     let evaluated = evaluation::evaluate(circuit, input, buffer);
     match evaluated {
-        Evaluated::Output(output) => Evaluation { refusal: 0, output },
-        Evaluated::Refused(cause) => Evaluation {
+        Ok(output) => Evaluation { refusal: 0, output },
+        Err(cause) => Evaluation {
             refusal: u32::from(cause),
             output: 0,
         },

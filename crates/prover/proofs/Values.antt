@@ -21,7 +21,8 @@ use Rattle.circuit.proofs.Values.{layer_part, layer_room, all_size}
 use Rattle.circuit.proofs.Largest.{in_limits}
 use Rattle.evaluation.specs.Layer.{AllValues}
 use Rattle.evaluation.specs.Evaluate.{Evaluates, evaluate_cause, evaluate_buffer}
-use Rattle.evaluation.specs.declared.Evaluated.{Evaluated}
+use Rattle.std.specs.Prelude.{Result}
+use Rattle.refusal.specs.declared.Cause.{Cause}
 use Rattle.evaluation.proofs.Evaluating.{output_first}
 use Rattle.protocol.specs.Rounds.{place, AtRound}
 use Rattle.protocol.specs.Judge.{message_length}
@@ -32,7 +33,7 @@ module _ (c input : List ℕ) (e : lists_cause c input ≡ 0) where
   legal = (legal_lists c input e).circuit
 
   -- what an evaluation leaves in a working array
-  pub evaluated : (before after : List ℕ) (r : Evaluated) → length before ≡ max_values → Evaluates c input before r after → AllValues c input after
+  pub evaluated : (before after : List ℕ) (r : Result ℕ Cause) → length before ≡ max_values → Evaluates c input before r after → AllValues c input after
   unfolding evaluate_buffer evaluate_cause
   evaluated before after r size v =
       let room : value_count c ≤ length before = omega (arith, size, (in_limits c legal).values) in

@@ -40,7 +40,7 @@ fn fill_values(circuit: &[u32], input: &[u32], values: &mut [u32])
     requires { (lists_cause circuit.now input.now ≡ 0) × (length values.old ≡ max_values) }
     ensures { AllValues circuit.now input.now values.new }
 {
-    evaluation::evaluate(circuit, input, values);
+    let _ = evaluation::evaluate(circuit, input, values);
 }
 
 // Writes all messages, each directly after the one before it.

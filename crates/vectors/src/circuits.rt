@@ -1,6 +1,5 @@
 // Cases of load and evaluate.
 use crate::MAX_WORDS;
-use evaluation::Evaluated;
 use std::io::{Result, Write};
 
 pub fn load<W: Write>(output: &mut W, lists: &[u32]) -> Result<()> {
@@ -20,11 +19,11 @@ pub fn evaluate<W: Write>(output: &mut W, lists: &[u32]) -> Result<()> {
     let count = cases::copy(cases::list(lists, 2), &mut buffer);
     let lent = &mut buffer[..count];
     match evaluation::evaluate(cases::list(lists, 0), cases::list(lists, 1), lent) {
-        Evaluated::Output(value) => {
+        Ok(value) => {
             output.write_all(b"value")?;
             cases::print_numbers(output, &[value])?;
         }
-        Evaluated::Refused(cause) => {
+        Err(cause) => {
             cases::print_refused(output, cause)?;
         }
     }

@@ -6,12 +6,12 @@ use Rattle.text.proofs.Writing.{wrote_as}
 use Rattle.evaluate_text.proofs.Lists.{printed_refused, printed_output}
 use Rattle.evaluate_text.proofs.write_lists.Goals as goal
 
-pub returns-in-Refused : goal.returns-in-Refused
-returns-in-Refused c =
+pub returns-in-Err : goal.returns-in-Err
+returns-in-Err c =
     wrote_as _ _ _ _ c.write_refused.ensures _
-    (printed_refused _ _ _ (omega arith) _ (told evaluation_of c.in-Refused.is c.evaluate-evaluated.ensures.answer))
+    (printed_refused _ _ _ (omega arith) _ (told evaluation_of c.in-Err.is c.evaluate-evaluated.ensures.answer))
 
-pub returns-in-Output : goal.returns-in-Output
-returns-in-Output c =
+pub returns-in-Ok : goal.returns-in-Ok
+returns-in-Ok c =
     wrote_as _ _ _ _ c.put_line.ensures _
-    (printed_output _ _ _ (omega arith) _ (told evaluation_of c.in-Output.is c.evaluate-evaluated.ensures.answer))
+    (printed_output _ _ _ (omega arith) _ (told evaluation_of c.in-Ok.is c.evaluate-evaluated.ensures.answer))

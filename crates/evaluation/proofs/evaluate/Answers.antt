@@ -7,7 +7,7 @@ use native.Mathlib.Omega.{arith}
 use lib.ListN.{length, take}
 use lib.Seq.{length-take-le}
 use Rattle.lists.proofs.Buffer.{over_whole}
-use Rattle.refusal.proofs.Told.{refusal_told, none_told}
+use Rattle.std.proofs.lemmas.Result.{err_from_is_err_and}
 use Rattle.circuit.specs.Circuit.{depth, gates_before}
 use Rattle.circuit.specs.Legal.{lists_cause}
 use Rattle.circuit.proofs.Sized.{layer_of}
@@ -22,46 +22,48 @@ place : (c input : List ℕ) (d r : ℕ) → lists_cause c input ≡ 0 → d ≡
 place c input d r e deep b =
     b.counted (layer_of c (legal_lists c input e).circuit d (le_of_eq deep)) ∙ ap (gates_before c) deep
 
-pub returns-in-Err : goal.returns-in-Err
-returns-in-Err c =
-    left_lists _ _ _ c.in-Err.cause (refusal_told c.in-Err.is c.check_lists-checked.ensures)
+pub returns-in_err-check_lists : goal.returns-in_err-check_lists
+returns-in_err-check_lists c =
+    let p = err_from_is_err_and c.from_residual.result c.from_residual.ensures.1 in
+    let r = c.in_err-check_lists in
+    rw (p.1, p.2) (left_lists _ _ _ r.field-0.0 r.ensures)
 
 pub overflow_add-total : goal.overflow_add-total
 overflow_add-total c =
-    let legal = none_told c.in_default.is c.check_lists-checked.ensures in
+    let legal = sym c.in_ok-check_lists.ensures in
     let at = place c.args.circuit.now c.args.input.now _ _ legal c.depth.ensures.0 c.gates_before-place.ensures in
     let few = input_fits _ _ legal _ at in
     omega arith
 
 pub returns-then-buffer-total : goal.returns-then-buffer-total
 returns-then-buffer-total c =
-    let legal = none_told c.in_default.is c.check_lists-checked.ensures in
+    let legal = sym c.in_ok-check_lists.ensures in
     let at = place c.args.circuit.now c.args.input.now _ _ legal c.depth.ensures.0 c.gates_before-place.ensures in
     left_short _ _ _ legal (omega (arith, c.if-buffer-total.true, input_ends _ _ legal _ at))
 
 pub all_values-values-requires : goal.all_values-values-requires
 all_values-values-requires c =
-    let legal = none_told c.in_default.is c.check_lists-checked.ensures in
+    let legal = sym c.in_ok-check_lists.ensures in
     let at = place c.args.circuit.now c.args.input.now _ _ legal c.depth.ensures.0 c.gates_before-place.ensures in
     (legal, at)
 
 pub slice_bounds-values-end : goal.slice_bounds-values-end
 slice_bounds-values-end c =
-    let legal = none_told c.in_default.is c.check_lists-checked.ensures in
+    let legal = sym c.in_ok-check_lists.ensures in
     let at = place c.args.circuit.now c.args.input.now _ _ legal c.depth.ensures.0 c.gates_before-place.ensures in
     let few = input_fits _ _ legal _ at in
     omega (arith, few, c.all_values-values.ensures.size)
 
 pub slice_bounds-put-end : goal.slice_bounds-put-end
 slice_bounds-put-end c =
-    let legal = none_told c.in_default.is c.check_lists-checked.ensures in
+    let legal = sym c.in_ok-check_lists.ensures in
     let at = place c.args.circuit.now c.args.input.now _ _ legal c.depth.ensures.0 c.gates_before-place.ensures in
     let few = input_fits _ _ legal _ at in
     sym (length-take-le _ _ (omega (arith, few, c.all_values-values.ensures.size)))
 
 pub returns : goal.returns
 returns c =
-    let legal = none_told c.in_default.is c.check_lists-checked.ensures in
+    let legal = sym c.in_ok-check_lists.ensures in
     let at = place c.args.circuit.now c.args.input.now _ _ legal c.depth.ensures.0 c.gates_before-place.ensures in
     let few = input_fits _ _ legal _ at in
     let buffer = c.args.buffer.now in
