@@ -4,20 +4,20 @@ use mathlib.Core.Path.{◌≡◌, refl, sym, ap, ap₂, ◌∙◌, subst}
 use mathlib.Core.Logic.{◌⊎◌, inl, inr}
 use mathlib.Core.Bool.{Bool, true, false, cond, ◌&&◌, and-false, false≢true}
 use mathlib.Core.Option.{Option, none, some, IsSome}
-use mathlib.Core.List.{List, [], ◌∷◌, ◌++◌, map, flatten, append_assoc}
+use mathlib.Core.List.{List, [], ◌∷◌, ◌++◌, map, flatten, append_assoc, append-nil}
 use Prim.Native.Nat.{ℕ, zero, suc, ◌+◌, ◌-◌, ◌*◌, ◌≤◌, ◌<◌}
 use native.Mathlib.Numerals.{sub-one}
 use native.Mathlib.Omega.{arith}
 use lib.Dec.{leb, eqb}
 use borrow.Author.Tests.{le-leb, lt-leb, leb-true, eq-eqb, ne_eqb}
-use lib.ListN.{length, get_or, set, take, drop, replicate, length-take, length-drop, length-append, length-map}
-use lib.Seq.{drop-drop, get_or-drop}
+use lib.ListN.{length, get_or, set, take, drop, replicate, length-take, length-drop, length-append, length-map, drop_of_length-le}
+use lib.Seq.{take_all, get_or-drop}
+use Rattle.std.proofs.lemmas.List.{drop-take}
 use Rattle.lists.specs.Buffer.{over}
 use Rattle.lists.proofs.Buffer.{over_set}
 use Rattle.lists.proofs.Map.{map_append}
 use Rattle.xdr.specs.Limits.{max_count}
 use Rattle.xdr.specs.Read.{words, first_word, size, whole, prepend, arrays, called, refused, counts, counts_of, words_of}
-use Rattle.xdr.specs.declared.Front.TheVariants.{Count, Unfit}
 use Rattle.xdr.proofs.Words.{length_words}
 
 -- THE FRONT
@@ -63,13 +63,6 @@ arrays_front : (n : ℕ) (l : List ℕ) → 0 < n → whole l ≡ true → array
 unfolding arrays
 arrays_front zero l h e = absurd (omega arith)
 arrays_front (suc n) l h e = rw (e, sub-one)
-
--- the same at a place of the bytes
-arrays_at : (n : ℕ) (bytes : List ℕ) (at : ℕ) → 0 < n → whole (drop at bytes) ≡ true
-    → arrays n (drop at bytes) ≡ prepend (front (drop at bytes)) (arrays (n - 1) (drop (at + size (first_word (drop at bytes))) bytes))
-arrays_at n bytes at h e =
-    arrays_front n (drop at bytes) h e
-    ∙ ap (λ (l : List ℕ). prepend (front (drop at bytes)) (arrays (n - 1) l)) (drop-drop (size (first_word (drop at bytes))) at bytes)
 
 pub arrays_end : (n : ℕ) (l : List ℕ) → n ≡ 0 → length l ≡ 0 → arrays n l ≡ some []
 unfolding arrays
@@ -137,36 +130,39 @@ unfolding words_of flatten
 words_prepend ws none s = absurd s
 words_prepend ws (some ls) s = (tt, refl)
 
--- A walk over bytes that hold n arrays from a place on: the one at that place, whose count was read as w, and those behind it.
-pub record Step (n at w : ℕ) (bytes : List ℕ) : Type 0 where
-  pub inside : at + 4 + 4 * w ≤ length bytes
-  pub part : words (take (at + 4 + 4 * w - (at + 4)) (drop (at + 4) bytes)) ≡ front (drop at bytes)
-  pub count : length (front (drop at bytes)) ≡ w
-  pub rest : IsSome (arrays (n - 1) (drop (at + 4 + 4 * w) bytes))
-  pub all : words_of (arrays n (drop at bytes)) ≡ front (drop at bytes) ++ words_of (arrays (n - 1) (drop (at + 4 + 4 * w) bytes))
-  pub left : length (words_of (arrays n (drop at bytes))) ≡ w + length (words_of (arrays (n - 1) (drop (at + 4 + 4 * w) bytes)))
+-- A walk over bytes that hold n arrays: the one at the front, whose count was read as w, and m in the rest behind it.
+pub record Step (n m w : ℕ) (l rest : List ℕ) : Type 0 where
+  pub inside : size w ≤ length l
+  pub part : (array : List ℕ) → array ≡ take (size w) l → words (take (length array - 4) (drop 4 array)) ≡ front l
+  pub count : length (front l) ≡ w
+  pub there : IsSome (arrays m rest)
+  pub all : words_of (arrays n l) ≡ front l ++ words_of (arrays m rest)
+  pub left : length (words_of (arrays n l)) ≡ w + length (words_of (arrays m rest))
 
-pub step : (n at w : ℕ) (bytes : List ℕ) → 0 < n → at ≤ length bytes → IsSome (arrays n (drop at bytes)) → w ≡ first_word (drop at bytes)
-    → Step n at w bytes
-step n at w bytes h g s v =
-    let l = drop at bytes in
-    let yes = whole_some n l h s in
+pub step : (n m w : ℕ) (l rest : List ℕ) → m + 1 ≡ n → IsSome (arrays n l) → w ≡ first_word l → rest ≡ drop (size w) l → Step n m w l rest
+step n m w l rest h s v t =
+    let yes = whole_some n l (omega arith) s in
     let fits = (whole_fits l yes).1 in
-    let place : at + size (first_word l) ≡ at + 4 + 4 * w = omega arith in
-    let rest = arrays (n - 1) (drop (at + 4 + 4 * w) bytes) in
-    let e : arrays n l ≡ prepend (front l) rest =
-    arrays_at n bytes at h yes ∙ ap (λ (k : ℕ). prepend (front l) (arrays (n - 1) (drop k bytes))) place in
-    let parts = words_prepend (front l) rest (subst IsSome e s) in
-    let size : at + 4 + 4 * w - (at + 4) ≡ 4 * first_word l = omega arith in
+    let less : n - 1 ≡ m = omega arith in
+    let e : arrays n l ≡ prepend (front l) (arrays m rest) =
+    arrays_front n l (omega arith) yes ∙ ap₂ (λ (k : ℕ) (r : List ℕ). prepend (front l) (arrays k r)) less (ap (λ (k : ℕ). drop (size k) l) (sym v) ∙ sym t) in
+    let parts = words_prepend (front l) (arrays m rest) (subst IsSome e s) in
     let joined = ap words_of e ∙ parts.1 in
+    let count : length (front l) ≡ w = length_front l fits ∙ sym v in
     record {
-      inside = omega (arith, fits, length-drop at bytes);
-      part = ap₂ (λ (k : ℕ) (m : List ℕ). words (take k m)) size (sym (drop-drop 4 at bytes));
-      count = length_front l fits ∙ sym v;
-      rest = parts.0;
+      inside = omega (arith, fits);
+      part = λ array a. ap words (array_words w l array (omega (arith, fits)) a) ∙ ap (λ (k : ℕ). words (take (4 * k) (drop 4 l))) v;
+      count = count;
+      there = parts.0;
       all = joined;
-      left = ap length joined ∙ length-append (front l) (words_of rest) ∙ ap (λ (k : ℕ). k + length (words_of rest)) (length_front l fits ∙ sym v);
+      left = ap length joined ∙ length-append (front l) (words_of (arrays m rest)) ∙ ap (λ (k : ℕ). k + length (words_of (arrays m rest))) count;
     }
+  where
+    array_words : (w : ℕ) (l array : List ℕ) → size w ≤ length l → array ≡ take (size w) l → take (length array - 4) (drop 4 array) ≡ take (4 * w) (drop 4 l)
+    array_words w l array h e =
+        let long : length array - 4 ≡ 4 * w = omega (arith, ap length e, length-take (size w) l) in
+        ap₂ (λ (k : ℕ) (t : List ℕ). take k (drop 4 t)) long e ∙ ap (take (4 * w)) (drop-take 4 (4 * w) l)
+        ∙ take_all (4 * w) (take (4 * w) (drop 4 l)) (omega (arith, length-take (4 * w) (drop 4 l)))
 
 pub words_none : (n : ℕ) (l : List ℕ) → n ≡ 0 → words_of (arrays n l) ≡ []
 unfolding arrays words_of flatten
@@ -192,17 +188,16 @@ after_prepend done ws none = refl
 after_prepend done ws (some ls) = ap some (sym (append_assoc done (ws ∷ []) ls))
 
 -- one array more, whose count was read as w
-pub after_front : (n i at w : ℕ) (bytes : List ℕ) (done : List (List ℕ)) (all : Option (List (List ℕ)))
-    → all ≡ after done (arrays (n - i) (drop at bytes)) → i < n → whole (drop at bytes) ≡ true → w ≡ first_word (drop at bytes)
-    → all ≡ after (done ++ (front (drop at bytes) ∷ [])) (arrays (n - (i + 1)) (drop (at + size w) bytes))
-after_front n i at w bytes done all e h f v =
+pub after_front : (n i w : ℕ) (l : List ℕ) (done : List (List ℕ)) (all : Option (List (List ℕ)))
+    → all ≡ after done (arrays (n - i) l) → i < n → whole l ≡ true → w ≡ first_word l
+    → all ≡ after (done ++ (front l ∷ [])) (arrays (n - (i + 1)) (drop (size w) l))
+after_front n i w l done all e h f v =
     let less : n - i - 1 ≡ n - (i + 1) = omega arith in
-    let l = drop at bytes in
-    e ∙ ap (after done) (arrays_at (n - i) bytes at (omega arith) f)
-    ∙ after_prepend done (front l) (arrays (n - i - 1) (drop (at + size (first_word l)) bytes))
-    ∙ ap₂ (λ (k j : ℕ). after (done ++ (front l ∷ [])) (arrays k (drop (at + size j) bytes))) less (sym v)
+    e ∙ ap (after done) (arrays_front (n - i) l (omega arith) f)
+    ∙ after_prepend done (front l) (arrays (n - i - 1) (behind l))
+    ∙ ap₂ (λ (k j : ℕ). after (done ++ (front l ∷ [])) (arrays k (drop (size j) l))) less (sym v)
 
--- the counts, written over four zeros
+-- the counts, written over the first of four zeros
 abbrev pub zeros : List ℕ
 zeros = replicate 4 0
 
@@ -218,28 +213,24 @@ count_over [] n k = get_or-drop n zeros k 0 ∙ zero_at (n + k)
 count_over (ws ∷ done) n zero = refl
 count_over (ws ∷ done) n (suc k) = count_over done n k
 
-pub counts_found : (done : List (List ℕ)) (cs : List ℕ) → cs ≡ over (map length done) zeros
-    → counts (get_or cs 0 0) (get_or cs 1 0) (get_or cs 2 0) (get_or cs 3 0) ≡ counts_of (some done)
+pub counts_found : (done : List (List ℕ)) (cs : List ℕ) (n : ℕ) → n ≤ 4 → length done ≡ n → cs ≡ over (map length done) (take n zeros)
+    → counts (get_or (cs ++ drop n zeros) 0 0) (get_or (cs ++ drop n zeros) 1 0) (get_or (cs ++ drop n zeros) 2 0) (get_or (cs ++ drop n zeros) 3 0)
+    ≡ counts_of (some done)
 unfolding counts_of
-counts_found done cs e =
-    let at : (k : ℕ) → get_or cs k 0 ≡ length (get_or done k []) =
-    λ k. ap (λ (l : List ℕ). get_or l k 0) e ∙ count_over done (length (map length done)) k in
+counts_found done cs n few same e =
+    let ms = map length done in
+    let none : drop (length ms) (take n zeros) ≡ [] =
+    drop_of_length-le (take n zeros) {i = length ms} (omega (arith, length-map {A = List ℕ} done length, length-take n zeros)) in
+    let whole : cs ≡ ms = e ∙ ap (λ (t : List ℕ). ms ++ t) none ∙ append-nil ms in
+    let at : (k : ℕ) → get_or (cs ++ drop n zeros) k 0 ≡ length (get_or done k []) =
+    λ k. ap (λ (l : List ℕ). get_or (l ++ drop n zeros) k 0) whole ∙ count_over done n k in
     rw (at 0, at 1, at 2, at 3)
 
-pub counts_more : (done : List (List ℕ)) (ws cs : List ℕ) (i w : ℕ) → cs ≡ over (map length done) zeros → length done ≡ i → i < 4
-    → w ≡ length ws → set cs i w ≡ over (map length (done ++ (ws ∷ []))) zeros
-counts_more done ws cs i w e d h v =
-    ap (λ (l : List ℕ). set l i w) e ∙ over_set (map length done) zeros i w (length-map done length ∙ d) h
+pub counts_more : (done : List (List ℕ)) (ws cs zs : List ℕ) (i w : ℕ) → cs ≡ over (map length done) zs → length done ≡ i → i < length zs
+    → w ≡ length ws → set cs i w ≡ over (map length (done ++ (ws ∷ []))) zs
+counts_more done ws cs zs i w e d h v =
+    ap (λ (l : List ℕ). set l i w) e ∙ over_set (map length done) zs i w (length-map done length ∙ d) h
     ∙ rw (map_append length done (ws ∷ []), v)
-
--- what stands at a place, as the code tells it
-pub front_some : (b : Bool) (w n : ℕ) → Count n ≡ cond b (Count w) Unfit → (b ≡ true) × (n ≡ w)
-front_some true w n e = (refl, cc)
-front_some false w n e = absurd (let z : ◌≡◌ {A = ℕ} 0 1 = cc in omega arith)
-
-pub front_none : (b : Bool) (w : ℕ) → Unfit ≡ cond b (Count w) Unfit → b ≡ false
-front_none true w e = absurd (let z : ◌≡◌ {A = ℕ} 0 1 = cc in omega arith)
-front_none false w e = refl
 
 -- FOUR BYTES A WORD
 -- the words of all arrays are no more than a quarter of the bytes

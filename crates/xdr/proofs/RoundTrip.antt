@@ -11,6 +11,7 @@ use native.Mathlib.Omega.{arith}
 use lib.ListN.{length, take, drop, length-append, length-take, length-drop, take-append-drop}
 use lib.Seq.{take_at, drop_at, drop-drop}
 use Rattle.lists.specs.Each.{All}
+use Rattle.lists.proofs.Each.{all_take, all_drop}
 use Rattle.xdr.specs.Read.{word, words, first_word, size, whole, prepend, arrays}
 use Rattle.xdr.specs.Encode.{bytes_of, encode_array, encode}
 use Rattle.xdr.specs.Theorems.{Legal, RoundTrip, OnlyEncodings}
@@ -93,16 +94,6 @@ round_trip (ws ∷ ls) h =
     (ap₂ prepend (front_words ws (encode ls) h.0) (ap (arrays (length ls)) (front_behind ws (encode ls) h.0) ∙ round_trip ls h.1))
 
 -- THE OTHER WAY
-all_drop : {A : Type 0} (P : A → Type 0) (n : ℕ) (l : List A) → All P l → All P (drop n l)
-all_drop P zero l h = h
-all_drop P (suc n) [] h = tt
-all_drop P (suc n) (x ∷ l) h = all_drop P n l h.1
-
-all_take : {A : Type 0} (P : A → Type 0) (n : ℕ) (l : List A) → All P l → All P (take n l)
-all_take P zero l h = tt
-all_take P (suc n) [] h = tt
-all_take P (suc n) (x ∷ l) h = (h.0, all_take P n l h.1)
-
 abbrev Bytes : List ℕ → Type 0
 Bytes l = All (λ b. b < 256) l
 

@@ -1,13 +1,12 @@
 -- Arrays of unsigned integers as bytes (RFC 4506, 4.2 and 4.13): a count, then that many words, four bytes each, high byte first.
 -- Assumes nothing.
-use Rattle.std.specs.Prelude.{ℕ, zero, suc, ◌+◌, ◌*◌, Bool, cond, ◌&&◌, length, get_or, take, drop, leb, eqb}
+use Rattle.std.specs.Prelude.{ℕ, zero, suc, ◌+◌, ◌*◌, Bool, cond, ◌&&◌, length, get_or, take, drop, leb, eqb, Result, Ok, Err}
 use Rattle.std.proofs.Math.Option.{Option, none, some}
 use mathlib.Core.List.{List, [], ◌∷◌, flatten}
 use Rattle.lists.specs.Buffer.{over}
+use Rattle.refusal.specs.declared.Cause.{Cause}
 use Rattle.refusal.specs.Number.{number_of}
 use Rattle.xdr.specs.Limits.{max_count}
-use Rattle.xdr.specs.declared.Arrays.{Arrays}
-use Rattle.xdr.specs.declared.Arrays.TheVariants.{Counts, Refused}
 
 -- WORDS
 -- four bytes, high byte first
@@ -56,9 +55,9 @@ pub data Answer : Type 0 where
   refused : ℕ → Answer
   counts : ℕ → ℕ → ℕ → ℕ → Answer
 
-abbrev pub answer_of : Arrays → Answer
-answer_of (Counts first second third fourth) = counts first second third fourth
-answer_of (Refused cause) = refused (number_of cause)
+abbrev pub answer_of : Result (List ℕ) Cause → Answer
+answer_of (Ok cs) = counts (get_or cs 0 0) (get_or cs 1 0) (get_or cs 2 0) (get_or cs 3 0)
+answer_of (Err cause) = refused (number_of cause)
 
 -- the count of the array with this index, 0 where there is none
 abbrev pub count_at : List (List ℕ) → ℕ → ℕ

@@ -1,65 +1,39 @@
 // Reads arrays of unsigned integers from bytes (RFC 4506): first all counts, so that a refusal leaves the buffer as it was, then the words.
 #![tactic(auto)]
 
-ghost use Rattle.std.specs.Prelude.{◌≡◌, cond, ◌+◌, ◌/◌, ◌≤◌, ◌<◌, min, length, take, drop};
+ghost use Rattle.std.specs.Prelude.{◌≡◌, cond, ◌+◌, ◌/◌, ◌≤◌, min, length, get_or, take, drop};
 ghost use Rattle.std.proofs.Math.Option.{IsSome};
 ghost use Rattle.lists.specs.Buffer.{over};
-ghost use Rattle.xdr.specs.Read.{first_word, words, whole, arrays, called, answer_of, counts_of, words_of, read_answer, read_buffer};
+ghost use Rattle.xdr.specs.Read.{first_word, words, size, whole, arrays, called, answer_of, counts_of, words_of, read_answer, read_buffer};
 
 use refusal::Cause;
 
 // The largest count of words in an array.
 const MAX_COUNT: u32 = 11541;
 
-// What reading answers: four counts, 0 for arrays not called for, or why nothing was read.
-#[derive(Clone, Copy)]
-pub enum Arrays {
-    Counts {
-        first: u32,
-        second: u32,
-        third: u32,
-        fourth: u32,
-    },
-    Refused(Cause),
-}
-
-// What stands at a place of the bytes: an array of so many words, or none.
-#[derive(Clone, Copy)]
-enum Front {
-    Count(u32),
-    Unfit,
-}
-
-// A byte as a word.
-fn wide(byte: u8) -> u32
-    ensures { (result ≡ byte) × (result < 256) }
+// The bytes of an array of so many words, its count included.
+fn size(count: u32) -> usize
+    ensures { result ≡ size count }
 {
-    byte as u32
+    4 + 4 * count as usize
 }
 
-// The word at a place where there is one, high byte first.
-fn word_within(bytes: &[u8], at: usize) -> u32
-    requires { at + 4 ≤ length bytes.now }
-    ensures { result ≡ first_word (drop at bytes.now) }
+// The first word, high byte first; 0 of fewer than four bytes.
+#[tactic(auto, using(crate::proofs::Words::first_four, crate::proofs::Words::first_none))]
+fn first_word(bytes: &[u8]) -> u32
+    ensures { result ≡ first_word bytes.now }
 {
-    let a = wide(bytes[at]);
-    let b = wide(bytes[at + 1]);
-    let c = wide(bytes[at + 2]);
-    let d = wide(bytes[at + 3]);
-    ((a * 256 + b) * 256 + c) * 256 + d
+    bytes
+        .first_chunk()
+        .map_or(0, |word| u32::from_be_bytes(*word))
 }
 
 // The word at a place; 0 where fewer than four bytes stand there.
+#[tactic(auto, using(crate::proofs::Words::first_past, crate::proofs::Words::first_rest))]
 pub fn word_at(bytes: &[u8], at: usize) -> u32
     ensures { result ≡ first_word (drop at bytes.now) }
 {
-    if bytes.len() < 4 {
-        return 0;
-    }
-    if bytes.len() - 4 < at {
-        return 0;
-    }
-    word_within(bytes, at)
+    bytes.get(at..).map_or(0, first_word)
 }
 
 // Writes the words that the bytes hold over the front of a buffer, as many as it holds, and answers how many.
@@ -68,9 +42,10 @@ pub fn put_words(bytes: &[u8], buffer: &mut [u32]) -> usize
     ensures words { buffer.new ≡
         over (take (length buffer.old) (words bytes.now)) buffer.old }
 {
-    let count = lists::least(bytes.len() / 4, buffer.len());
-    for i in 0..count {
-        buffer[i] = word_within(bytes, 4 * i);
+    let (all, _) = bytes.as_chunks::<4>();
+    let count = all.len().min(buffer.len());
+    for (i, word) in all[..count].iter().enumerate() {
+        buffer[i] = u32::from_be_bytes(*word);
     }
     count
 }
@@ -80,81 +55,62 @@ fn write(bytes: &[u8], number: u32, buffer: &mut [u32])
     requires { IsSome (arrays number bytes.now) × (length (words_of (arrays number bytes.now)) ≤ length buffer.old) }
     ensures { buffer.new ≡ over (words_of (arrays number bytes.now)) buffer.old }
 {
-    let mut at = 0;
+    let mut rest = bytes;
     let mut to = 0;
-    let mut left = number;
-    while 0 < left {
-        let count = word_at(bytes, at) as usize;
-        let start = at + 4;
-        at = start + 4 * count;
-        put_words(&bytes[start..at], &mut buffer[to..]);
-        to += count;
-        left -= 1;
+    for _ in 0..number {
+        let (array, behind) = rest.split_at(size(first_word(rest)));
+        to += put_words(&array[4..], &mut buffer[to..]);
+        rest = behind;
     }
 }
 
-// The array at a place, if a whole one of legal length stands there.
-fn front_at(bytes: &[u8], at: usize) -> Front
-    requires { at ≤ length bytes.now }
-    ensures { result ≡ cond (whole (drop at bytes.now)) (Front.Count (first_word (drop at bytes.now))) Front.Unfit }
+// The count of the array at the front, if a whole one of legal length stands there.
+#[tactic(auto, unfolding(crate::specs::Read::whole))]
+fn front(bytes: &[u8]) -> Option<u32>
+    ensures { result ≡ cond (whole bytes.now) (Some (first_word bytes.now)) None }
 {
-    let count = word_at(bytes, at);
-    if MAX_COUNT < count {
-        return Front::Unfit;
-    }
-    if bytes.len() - at < 4 + 4 * count as usize {
-        return Front::Unfit;
-    }
-    Front::Count(count)
+    let count = first_word(bytes);
+    let whole = count <= MAX_COUNT && size(count) <= bytes.len();
+    whole.then_some(count)
 }
 
 // The counts of the arrays, with nothing written.
-fn scan(bytes: &[u8], number: u32) -> Arrays
+fn scan(bytes: &[u8], number: u32) -> Result<[u32; 4], Cause>
     ensures { answer_of result ≡ counts_of (called number bytes.now) }
 {
     if number < 1 || 4 < number {
-        return Arrays::Refused(Cause::BytesUnfit);
+        return Err(Cause::BytesUnfit);
     }
-    let mut counts = [0u32; 4];
-    let mut at = 0;
-    for i in 0..number as usize {
-        let front = front_at(bytes, at);
-        let Front::Count(count) = front else {
-            return Arrays::Refused(Cause::BytesUnfit);
-        };
-        counts[i] = count;
-        at += 4 + 4 * count as usize;
+    let mut counts = [0; 4];
+    let mut rest = bytes;
+    for count in &mut counts[..number as usize] {
+        *count = front(rest).ok_or(Cause::BytesUnfit)?;
+        (_, rest) = rest.split_at(size(*count));
     }
-    if at < bytes.len() {
-        return Arrays::Refused(Cause::BytesUnfit);
+    if !rest.is_empty() {
+        return Err(Cause::BytesUnfit);
     }
-    Arrays::Counts {
-        first: counts[0],
-        second: counts[1],
-        third: counts[2],
-        fourth: counts[3],
-    }
+    Ok(counts)
 }
 
-// Reads the arrays that the bytes are made of, as many as the given number, and writes their words to the front of the buffer.
-pub fn read(bytes: &[u8], number: u32, buffer: &mut [u32]) -> Arrays
+// How many words the arrays have together.
+fn total(counts: [u32; 4]) -> usize
+    ensures { result ≡ get_or counts 0 0 + get_or counts 1 0 + get_or counts 2 0 + get_or counts 3 0 }
+{
+    let [first, second, third, fourth] = counts.map(|count| count as usize);
+    first + second + third + fourth
+}
+
+// Reads the arrays that the bytes are made of, as many as the given number, and writes their words to the front of the buffer. The answer is
+// four counts, 0 for arrays not called for, or why nothing was read.
+pub fn read(bytes: &[u8], number: u32, buffer: &mut [u32]) -> Result<[u32; 4], Cause>
     ensures answer { answer_of result ≡ read_answer number bytes.now buffer.old }
     ensures words { buffer.new ≡ read_buffer number bytes.now buffer.old }
 {
-    let found = scan(bytes, number);
-    let Arrays::Counts {
-        first,
-        second,
-        third,
-        fourth,
-    } = found
-    else {
-        return found;
-    };
-    let total = first as usize + second as usize + third as usize + fourth as usize;
-    if buffer.len() < total {
-        return Arrays::Refused(Cause::BufferShort);
+    let counts = scan(bytes, number)?;
+    if buffer.len() < total(counts) {
+        return Err(Cause::BufferShort);
     }
     write(bytes, number, buffer);
-    found
+    Ok(counts)
 }

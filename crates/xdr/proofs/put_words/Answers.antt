@@ -1,6 +1,5 @@
 -- `put_words` meets its contract: after i turns the first i words stand over the buffer.
-use mathlib.Core.Path.{sym, ◌∙◌}
-use native.Mathlib.Omega.{arith}
+use Rattle.std.proofs.Common.{arith, ◌∙◌, length-take}
 use Rattle.lists.proofs.Storing.{start_held, next_held, end_held}
 use Rattle.xdr.specs.Read.{words}
 use Rattle.xdr.proofs.Words.{length_words, word_of}
@@ -13,10 +12,13 @@ pub loop-i-preserved : goal.loop-i-preserved
 loop-i-preserved c =
     let bytes = c.args.bytes.now in
     let size = length_words bytes in
-    next_held (words bytes) _ c.loop-i.invariant 0 _ (omega arith) (c.word_within.ensures ∙ sym (word_of bytes c.loop-i.i (omega arith)))
+    let chunks = c.as_chunks.result.0.now in
+    let cut = length-take c.min-count.result chunks in
+    next_held (words bytes) _ c.loop-i.invariant 0 _ (omega arith)
+    (c.from_be_bytes.ensures ∙ word_of bytes chunks c.min-count.result c.loop-i.i c.as_chunks.ensures.front c.loop-i-test.true)
 
-pub returns : goal.returns
-returns c =
-    let bytes = c.args.bytes.now in
-    let size = length_words bytes in
-    record { count = c.least-count.ensures; words = end_held (words bytes) _ c.loop-i.invariant (omega arith) }
+pub returns-clause-words : goal.returns-clause-words
+returns-clause-words c =
+    let size = length_words c.args.bytes.now in
+    let cut = length-take c.min-count.result c.as_chunks.result.0.now in
+    end_held (words c.args.bytes.now) _ c.loop-i.invariant (omega arith)

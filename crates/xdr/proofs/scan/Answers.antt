@@ -1,60 +1,72 @@
--- `scan` meets its contract. Invariant: the arrays done, put before those found from here on, are all arrays, and their counts stand over zeros.
-use mathlib.Core.Path.{refl, sym, ap, ◌∙◌}
-use mathlib.Core.List.{[], ◌∷◌, ◌++◌, append-nil}
-use mathlib.Core.Option.{some}
-use native.Mathlib.Nat.{sub-zero}
-use Prim.Native.Nat.{◌+◌, ◌≤◌}
+-- `scan` meets its contract. Invariant: the arrays done, put before those found in the rest, are all arrays, and their counts stand over zeros.
+use Rattle.std.proofs.Common.{arith, ℕ, ◌+◌, ◌-◌, List, drop, Bool, true, false, cond, ◌≡◌, refl, sym, ap, ◌∙◌, [], ◌∷◌, ◌++◌, length-append, length-take}
+use Rattle.std.proofs.lemmas.Grind.{common_steps}
+use Rattle.std.proofs.Math.Nat.{sub-zero}
+use Rattle.std.proofs.Math.Option.{some}
+use Rattle.std.specs.Prelude.{Option, Some, None, Err, ok_or}
+use mathlib.Core.List.{append-nil}
 use mathlib.Core.Logic.{inl, inr}
-use borrow.Author.Tests.{ltb-false}
-use native.Mathlib.Omega.{arith}
-use lib.ListN.{length, drop, length-append, length-drop}
-use Rattle.xdr.specs.Read.{counts_of, first_word, whole, size}
-use Rattle.xdr.proofs.Found.{refused_found, front, whole_fits, length_front, arrays_none, arrays_end, arrays_left_over}
-use Rattle.xdr.proofs.Found.{after_nil, after_front, counts_more, called_none, called_some, after, counts_found, front_some, front_none}
-use borrow.Author.Rules.{rules}
+use Rattle.refusal.specs.declared.Cause.{Cause}
+use Rattle.xdr.specs.Read.{first_word, whole, arrays, counts_of}
+use Rattle.xdr.proofs.Found.{zeros, after, after_nil, after_front, front, length_front, whole_fits, refused_found}
+use Rattle.xdr.proofs.Found.{called_none, called_some, arrays_none, arrays_end, arrays_left_over, counts_found, counts_more}
 use Rattle.xdr.proofs.scan.Goals as goal
-use Rattle.xdr.proofs.scan.Goals.{then-number-lt1-via-then-number-lt1, then-number-lt1-via-else-number-lt1+then-number-gt4}
+
+-- what stands at the front, as the code tells it
+fit : (b : Bool) (w n : ℕ) (front : Option ℕ) → front ≡ cond b (Some w) None → front ≡ Some n → (b ≡ true) × (n ≡ w)
+fit true w n front f h = (refl, cc)
+fit false w n front f h = absurd (let z : ◌≡◌ {A = ℕ} 0 1 = cc in omega arith)
+
+unfit : (b : Bool) (w : ℕ) (front : Option ℕ) (e cause : Cause) → front ≡ cond b (Some w) None → Err cause ≡ ok_or front e → (b ≡ false) × (cause ≡ e)
+unfit true w front e cause f h = absurd (let z : ◌≡◌ {A = ℕ} 0 1 = cc in omega arith)
+unfit false w front e cause f h = (refl, cc)
 
 pub returns-then-number-lt1 : goal.returns-then-number-lt1
 returns-then-number-lt1 c =
-    sym (refused_found (called_none c.args.number c.args.bytes.now
-    (elim c.then-number-lt1.branch [ then-number-lt1-via-then-number-lt1 w ↦ inl (omega arith) | then-number-lt1-via-else-number-lt1+then-number-gt4 w ↦ inr (omega arith) ])))
+    sym (refused_found (called_none c.args.number c.args.bytes.now (elim c.then-number-lt1.either [ inl w ↦ inl w | inr w ↦ inr w.1 ])))
 
-pub loop-i-init : goal.loop-i-init
-loop-i-init c = ([], refl, search rules, refl, search rules, omega (arith, ltb-false), search rules, refl, rw sub-zero (sym (after_nil _)))
+pub loop-count-init : goal.loop-count-init
+loop-count-init c = ([], refl, refl, rw sub-zero (sym (after_nil _)))
 
-pub returns-in_default : goal.returns-in_default
-returns-in_default c =
-    let l = (drop c.loop-i.at c.args.bytes.now) in
-    let unfit = front_none (whole l) (first_word l) (sym c.in_default.is ∙ c.front_at-front.ensures) in
-    sym (refused_found ((let inv = c.loop-i.invariant in called_some c.args.number c.args.bytes.now inv.4 inv.5 ∙ inv.8 ∙ ap (after inv.0) (arrays_none _ l (omega arith) unfit))))
+pub returns-in_err-count : goal.returns-in_err-count
+returns-in_err-count c =
+    let l = c.loop-count.rest.now in
+    let inv = c.loop-count.invariant in
+    let no = unfit (whole l) (first_word l) c.front.result _ _ c.front.ensures (c.in_err-count.ensures {u = tt}).value in
+    let all = called_some c.args.number c.args.bytes.now (omega arith) (omega arith) ∙ inv.3 ∙ ap (after inv.0) (arrays_none _ l (omega (arith, length-take c.args.number zeros)) no.0) in
+    let none = refused_found all in
+    grind (arith, common_steps, none, no.1)
 
-pub loop-i-preserved : goal.loop-i-preserved
-loop-i-preserved c =
-    let bytes = c.args.bytes.now in
-    let inv = c.loop-i.invariant in
-    let l = (drop c.loop-i.at c.args.bytes.now) in
-    let count = c.in-Count.count in
-    let fit = front_some (whole l) (first_word l) count (sym c.in-Count.is ∙ c.front_at-front.ensures) in
-    let inside = (whole_fits l fit.0).1 in
-    let bound : size (first_word l) + c.loop-i.at ≤ length bytes = omega (arith, inside, length-drop c.loop-i.at bytes) in (
+pub split_at-requires : goal.split_at-requires
+split_at-requires c =
+    let l = c.loop-count.rest.now in
+    let yes = fit (whole l) (first_word l) c.in_ok-count.field-0 c.front.result c.front.ensures (c.in_ok-count.ensures {u = tt}).ok_part in
+    omega (arith, (whole_fits l yes.0).1)
+
+pub loop-count-preserved : goal.loop-count-preserved
+loop-count-preserved c =
+    let l = c.loop-count.rest.now in
+    let inv = c.loop-count.invariant in
+    let yes = fit (whole l) (first_word l) c.in_ok-count.field-0 c.front.result c.front.ensures (c.in_ok-count.ensures {u = tt}).ok_part in
+    let inside = (whole_fits l yes.0).1 in
+    let behind = c.split_at.ensures.back ∙ ap (λ (n : ℕ). drop n l) c.size.ensures in (
       inv.0 ++ (front l ∷ []),
       simp length-append (omega arith),
-      search rules,
-      refl,
-      inv.4,
-      inv.5,
-      omega (arith, bound, fit.1),
-      counts_more inv.0 (front l) c.loop-i.counts c.loop-i.i count inv.7 inv.1 (omega arith)
-          (fit.1 ∙ sym (length_front l inside)),
-      after_front c.args.number c.loop-i.i c.loop-i.at count bytes inv.0 _ inv.8 (omega arith) fit.0 fit.1,
+      counts_more inv.0 (front l) c.loop-count.count-items _ c.loop-count.count-index _ inv.2 inv.1 (omega arith) (yes.1 ∙ sym (length_front l inside)),
+      after_front c.args.number c.loop-count.count-index _ l inv.0 _ inv.3 (omega (arith, length-take c.args.number zeros)) yes.0 yes.1
+          ∙ ap (λ (t : List ℕ). after (inv.0 ++ (front l ∷ [])) (arrays (c.args.number - (c.loop-count.count-index + 1)) t)) (sym behind),
     )
 
-pub returns-then-at-bytes : goal.returns-then-at-bytes
-returns-then-at-bytes c = sym (refused_found ((let inv = c.loop-i.invariant in called_some c.args.number c.args.bytes.now inv.4 inv.5 ∙ inv.8 ∙ ap (after inv.0) (arrays_left_over _ (drop c.loop-i.at c.args.bytes.now) (omega arith) (simp length-drop (omega arith))))))
+pub returns-then-not-is_empty : goal.returns-then-not-is_empty
+returns-then-not-is_empty c =
+    let l = c.loop-count.rest.now in
+    let inv = c.loop-count.invariant in
+    let all = called_some c.args.number c.args.bytes.now (omega arith) (omega arith) ∙ inv.3 ∙ ap (after inv.0) (arrays_left_over _ l (omega (arith, length-take c.args.number zeros)) (grind arith)) in
+    sym (refused_found all)
 
 pub returns : goal.returns
 returns c =
-    let inv = c.loop-i.invariant in
-    let all = (let inv = c.loop-i.invariant in called_some c.args.number c.args.bytes.now inv.4 inv.5 ∙ inv.8 ∙ ap (after inv.0) (arrays_end _ (drop c.loop-i.at c.args.bytes.now) (omega arith) (simp length-drop (omega arith)))) ∙ ap some (append-nil inv.0) in
-    counts_found inv.0 c.loop-i.counts inv.7 ∙ ap counts_of (sym all)
+    let l = c.loop-count.rest.now in
+    let inv = c.loop-count.invariant in
+    let all = called_some c.args.number c.args.bytes.now (omega arith) (omega arith) ∙ inv.3 ∙ ap (after inv.0) (arrays_end _ l (omega (arith, length-take c.args.number zeros)) (grind arith)) ∙ ap some (append-nil inv.0) in
+    counts_found inv.0 c.loop-count.count-items c.args.number (omega arith) (omega (arith, length-take c.args.number zeros)) inv.2 ∙ ap counts_of (sym all)

@@ -1,48 +1,54 @@
--- `write` meets its contract. Invariant: the words done stand over the buffer, the arrays ahead are all there, and together they are all words.
-use mathlib.Core.Path.{refl, sym, ap, ◌∙◌}
-use mathlib.Core.List.{List, [], ◌++◌, append_assoc, append-nil}
-use Prim.Native.Nat.{ℕ, ◌-◌, ◌≤◌}
-use native.Mathlib.Omega.{arith}
-use lib.ListN.{length, drop, take, length-append, length-drop, length-take}
+-- `write` meets its contract. Invariant: the words done stand over the buffer, the arrays ahead are all in the rest, and together they are all words.
+use Rattle.std.proofs.Common.{rules, arith, ℕ, ◌≡◌, ◌+◌, ◌-◌, ◌≤◌, List, [], ◌++◌, length, drop, take, refl, sym, ap, ◌∙◌, append_assoc, length-append, length-drop, length-take}
+use Rattle.std.proofs.Math.Nat.{sub-zero}
+use mathlib.Core.List.{append-nil}
 use Rattle.lists.specs.Buffer.{over}
-use Rattle.lists.proofs.Buffer.{over_more, over_whole, length_over}
+use Rattle.lists.proofs.Buffer.{over_more, over_whole}
+use Rattle.xdr.proofs.Words.{length_words}
 use Rattle.xdr.proofs.Found.{front, step, words_none}
-use borrow.Author.Rules.{rules}
 use Rattle.xdr.proofs.write.Goals as goal
 
-pub loop-left-init : goal.loop-left-init
-loop-left-init c = ([], refl, search rules, refl, refl, search rules, c.requires.0, refl)
+pub loop-init : goal.loop-init
+loop-init c = ([], refl, refl, rw sub-zero (omega arith), rw sub-zero c.requires.0, rw sub-zero)
 
-pub slice_bounds-put_words-end : goal.slice_bounds-put_words-end
-slice_bounds-put_words-end c =
-    let here = c.loop-left in
-    let s = step here.left here.at c.word_at-count.result c.args.bytes.now c.loop-left-test.true here.invariant.2 here.invariant.6 c.word_at-count.ensures in
+pub split_at-requires : goal.split_at-requires
+split_at-requires c =
+    let here = c.loop in
+    let s = step (c.args.number - here.counter) (c.args.number - (here.counter + 1)) c.first_word.result here.rest.now _ (omega arith) here.invariant.4 c.first_word.ensures refl in
     omega arith
 
-pub loop-left-preserved : goal.loop-left-preserved
-loop-left-preserved c =
-    let here = c.loop-left in
+pub slice_bounds-put_words-start-in-loop : goal.slice_bounds-put_words-start-in-loop
+slice_bounds-put_words-start-in-loop c =
+    let size = ap length c.loop.invariant.2 in
+    let few : c.loop.to ≤ length c.loop.buffer = omega arith in search rules
+
+pub loop-preserved : goal.loop-preserved
+loop-preserved c =
+    let here = c.loop in
     let inv = here.invariant in
-    let s = step here.left here.at c.word_at-count.result c.args.bytes.now c.loop-left-test.true inv.2 inv.6 c.word_at-count.ensures in
+    let l = here.rest.now in
+    let behind = c.split_at.ensures.back ∙ ap (λ (n : ℕ). drop n l) c.size.ensures in
+    let array = c.split_at.ensures.front ∙ ap (λ (n : ℕ). take n l) c.size.ensures in
+    let s = step (c.args.number - here.counter) (c.args.number - (here.counter + 1)) c.first_word.result l _ (omega arith) inv.4 c.first_word.ensures behind in
     let buffer = c.args.buffer.now in
-    let ws = front (drop here.at c.args.bytes.now) in
+    let ws = front l in
     let lent = take (length here.buffer - here.to) (drop here.to here.buffer) in
     let room : length ws ≤ length lent = simp (length-take, length-drop) (omega arith) in
-    let part = over_whole ws lent _ room (rw s.part at c.put_words.ensures.words) in
-    let now = over_more inv.0 ws buffer here.buffer c.put_words.new.buffer here.to inv.3 inv.1 part (omega arith) in (
+    let bytes = take (length c.split_at.result.0.now - 4) (drop 4 c.split_at.result.0.now) in
+    let same = s.part _ array in
+    let part = over_whole ws lent _ room (rw same at c.put_words-to.ensures.words) in
+    let put : c.put_words-to.result ≡ length ws = omega (arith, c.put_words-to.ensures.count, length_words bytes, ap length same, room) in
+    let now = over_more inv.0 ws buffer here.buffer c.put_words-to.new.buffer here.to inv.2 inv.1 part (omega arith) in (
       inv.0 ++ ws,
       simp length-append (omega arith),
-      s.inside,
       now,
-      ap length now ∙ length_over (inv.0 ++ ws) buffer (simp length-append (omega arith)),
       omega arith,
-      s.rest,
-      inv.7 ∙ ap (λ (t : List ℕ). inv.0 ++ t) s.all ∙ sym (append_assoc inv.0 ws _),
+      s.there,
+      inv.5 ∙ ap (λ (t : List ℕ). inv.0 ++ t) s.all ∙ sym (append_assoc inv.0 ws _),
     )
 
 pub returns : goal.returns
 returns c =
-    let inv = c.loop-left.invariant in
-    let none = words_none c.loop-left.left (drop c.loop-left.at c.args.bytes.now) (omega arith) in
-    inv.3
-    ∙ ap (λ (ms : List ℕ). over ms c.args.buffer.now) (sym (inv.7 ∙ ap (λ (t : List ℕ). inv.0 ++ t) none ∙ append-nil inv.0))
+    let inv = c.loop.invariant in
+    let none = words_none (c.args.number - c.loop.counter) c.loop.rest.now (omega arith) in
+    inv.2 ∙ ap (λ (ms : List ℕ). over ms c.args.buffer.now) (sym (inv.5 ∙ ap (λ (t : List ℕ). inv.0 ++ t) none ∙ append-nil inv.0))
