@@ -13,7 +13,6 @@ ghost use Rattle.kidlothe.specs.Answers.{plain_step, ExportsEvaluate, ExportsRea
 use prover::{Message, Proved};
 use session::{Opening, Session, Verdict};
 use verifier::Outcome;
-use xdr::Arrays;
 
 // The words of a session's record, and the word of an open one.
 pub const SESSION_WORDS: usize = 4;
@@ -94,21 +93,18 @@ pub fn kidlothe_evaluate(circuit: &[u32], input: &[u32], buffer: &mut [u32]) -> 
 pub fn kidlothe_read(bytes: &[u8], number: u32, buffer: &mut [u32]) -> Counts
     ensures { ExportsRead number bytes.now buffer.old result buffer.new }
 {
-    let read = xdr::read(bytes, number, buffer);
-    match read {
-        Arrays::Counts {
-            first,
-            second,
-            third,
-            fourth,
-        } => Counts {
-            refusal: 0,
-            first,
-            second,
-            third,
-            fourth,
-        },
-        Arrays::Refused(cause) => Counts {
+    match xdr::read(bytes, number, buffer) {
+        Ok(counts) => {
+            let [first, second, third, fourth] = counts;
+            Counts {
+                refusal: 0,
+                first,
+                second,
+                third,
+                fourth,
+            }
+        }
+        Err(cause) => Counts {
             refusal: u32::from(cause),
             first: 0,
             second: 0,

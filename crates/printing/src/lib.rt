@@ -13,8 +13,7 @@ ghost use Rattle.printing.specs.Limits.{max_bytes};
 ghost use Rattle.printing.specs.Printed.{refused_text};
 
 use refusal::Cause;
-use std::io::{Read, Result};
-use xdr::Arrays;
+use std::io::{self, Read};
 
 // The bytes that may be read, and the words that they hold.
 pub const MAX_BYTES: usize = 65536;
@@ -29,20 +28,23 @@ pub fn write_refused(cause: Cause, text: &mut [u8]) -> usize
 }
 
 // Reads arrays, as many as the given number, from no more bytes than may be read. No bytes hold more words than the array.
-pub fn read_lists(bytes: &[u8], number: u32, words: &mut [u32; MAX_WORDS]) -> Arrays
+pub fn read_lists(
+    bytes: &[u8],
+    number: u32,
+    words: &mut [u32; MAX_WORDS],
+) -> Result<[u32; 4], Cause>
     ensures answer { answer_of result ≡ counts_of (given number bytes.now) }
     ensures words { words.new ≡ over (words_of (given number bytes.now)) words.old }
 {
-    let too_many = MAX_BYTES < bytes.len();
-    if too_many {
-        return Arrays::Refused(Cause::BytesUnfit);
+    if MAX_BYTES < bytes.len() {
+        return Err(Cause::BytesUnfit);
     }
     xdr::read(bytes, number, words)
 }
 
 // Reads until the buffer is full or the input ends, and answers how many bytes stand at its front: what was taken from the input, and all
 // that was left of it where the buffer has room for more. A read that fails ends it with the error.
-pub fn read_full<R: Read>(input: &mut R, bytes: &mut [u8]) -> Result<usize>
+pub fn read_full<R: Read>(input: &mut R, bytes: &mut [u8]) -> io::Result<usize>
     ensures within { ReadsAtMost result bytes.new }
     ensures taken { IfOk result (λ n.
         Consumes (R.remaining input.old) (R.remaining input.new) (take n bytes.new)) }
@@ -60,7 +62,7 @@ pub fn read_full<R: Read>(input: &mut R, bytes: &mut [u8]) -> Result<usize>
 }
 
 // Reads a program's input, and answers how many bytes were read: a byte more than may be read shows that there are too many.
-pub fn read_input<R: Read>(input: &mut R, bytes: &mut [u8; MAX_BYTES + 1]) -> Result<usize>
+pub fn read_input<R: Read>(input: &mut R, bytes: &mut [u8; MAX_BYTES + 1]) -> io::Result<usize>
     ensures within { ReadsAtMost result bytes.new }
     ensures front { IfOk result (λ n.
         IfSome (R.remaining input.old) (λ xs. take n bytes.new ≡ take (max_bytes + 1) xs)) }

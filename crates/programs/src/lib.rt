@@ -3,13 +3,12 @@
 // can speak of those of standard input and standard output.
 #![tactic(auto)]
 
-ghost use Rattle.std.specs.Prelude.{◌≡◌, [], ◌∷◌, ◌+◌, ◌≤◌, length, take, drop, IfOk, OnOk, IfSome};
+ghost use Rattle.std.specs.Prelude.{◌≡◌, [], ◌∷◌, ◌+◌, ◌≤◌, length, get_or, take, drop, IfOk, OnOk, IfSome};
 ghost use Rattle.std.specs.Io.KnownBytes.{Appends};
 ghost use Rattle.text.specs.Wrote.{Wrote};
 ghost use Rattle.programs.specs.Programs.{arrays_of, text_of, program_text, longest};
 
 use std::io::{Read, Result, Write};
-use xdr::Arrays;
 
 // The specification's program, and one for each of the operations Check and Evaluate.
 #[derive(Clone, Copy)]
@@ -54,33 +53,19 @@ fn write_lists(
 }
 
 // Writes what it prints for the lists that begin these words, so many words each.
-fn write_parts(
-    program: Program,
-    words: &[u32],
-    first: usize,
-    second: usize,
-    third: usize,
-    fourth: usize,
-    text: &mut [u8],
-) -> usize
-    requires { first + second + third + fourth ≤ length words.now }
-    ensures { Wrote
-        (text_of program (take first words.now ∷ take second (drop first words.now)
-        ∷ take third (drop (first + second) words.now)
-        ∷ take fourth (drop (first + second + third) words.now) ∷ []))
+fn write_parts(program: Program, words: &[u32], counts: [u32; 4], text: &mut [u8]) -> usize
+    requires { get_or counts 0 0 + get_or counts 1 0 + get_or counts 2 0 + get_or counts 3 0 ≤ length words.now }
+    ensures { let a = get_or counts 0 0 in let b = get_or counts 1 0 in let c = get_or counts 2 0 in let d = get_or counts 3 0 in
+        Wrote (text_of program (take a words.now ∷ take b (drop a words.now)
+        ∷ take c (drop (a + b) words.now)
+        ∷ take d (drop (a + b + c) words.now) ∷ []))
         text.old text.new result }
 {
-    let coins = first + second;
-    let transcript = coins + third;
-    let end = transcript + fourth;
-    write_lists(
-        program,
-        &words[..first],
-        &words[first..coins],
-        &words[coins..transcript],
-        &words[transcript..end],
-        text,
-    )
+    let [first, second, third, fourth] = counts.map(|count| count as usize);
+    let (circuit, rest) = words.split_at(first);
+    let (input, rest) = rest.split_at(second);
+    let (coins, rest) = rest.split_at(third);
+    write_lists(program, circuit, input, coins, &rest[..fourth], text)
 }
 
 // Writes what it prints for these bytes, as much as the buffer holds, and answers how much that is.
@@ -88,23 +73,9 @@ fn write_text(program: Program, bytes: &[u8], text: &mut [u8]) -> usize
     ensures { Wrote (program_text program bytes.now) text.old text.new result }
 {
     let mut words = [0u32; printing::MAX_WORDS];
-    let read = printing::read_lists(bytes, arrays_of(program), &mut words);
-    match read {
-        Arrays::Refused(cause) => printing::write_refused(cause, text),
-        Arrays::Counts {
-            first,
-            second,
-            third,
-            fourth,
-        } => write_parts(
-            program,
-            &words,
-            first as usize,
-            second as usize,
-            third as usize,
-            fourth as usize,
-            text,
-        ),
+    match printing::read_lists(bytes, arrays_of(program), &mut words) {
+        Ok(counts) => write_parts(program, &words, counts, text),
+        Err(cause) => printing::write_refused(cause, text),
     }
 }
 

@@ -22,7 +22,6 @@ mod verdicts;
 
 use programs::Program;
 use std::io::{Result, Write};
-use xdr::Arrays;
 
 // An operation whose answer is a line.
 #[derive(Clone, Copy)]
@@ -90,16 +89,11 @@ fn read<W: Write>(output: &mut W, bytes: &[u8], lists: &[u32]) -> Result<()> {
     let count = cases::copy(cases::list(lists, 1), &mut buffer);
     let lent = &mut buffer[..count];
     match xdr::read(bytes, lists::word(cases::list(lists, 0), 0), lent) {
-        Arrays::Counts {
-            first,
-            second,
-            third,
-            fourth,
-        } => {
+        Ok(counts) => {
             output.write_all(b"counts")?;
-            cases::print_numbers(output, &[first, second, third, fourth])?;
+            cases::print_numbers(output, &counts)?;
         }
-        Arrays::Refused(cause) => {
+        Err(cause) => {
             cases::print_refused(output, cause)?;
         }
     }

@@ -3,8 +3,8 @@ use Rattle.std.proofs.Common.{◌∙◌, arith}
 use Rattle.printing.proofs.Input.{read_long, read_short}
 use Rattle.printing.proofs.read_lists.Goals as goal
 
-pub returns-then-too_many : goal.returns-then-too_many
-returns-then-too_many c =
+pub returns-then-bytes-gt-MAX_BYTES : goal.returns-then-bytes-gt-MAX_BYTES
+returns-then-bytes-gt-MAX_BYTES c =
     let long = read_long c.args.number c.args.bytes.now c.args.words.now (omega arith) in
     record { answer = long.0; words = long.1 }
 
