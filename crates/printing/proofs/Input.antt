@@ -17,11 +17,15 @@ use Rattle.xdr.proofs.Answers.{read_whole}
 use Rattle.printing.specs.Limits.{max_bytes, max_words}
 use Rattle.printing.specs.Input.{given}
 
+-- too many bytes hold no lists
+pub long_unfit : (n : ℕ) (bytes : List ℕ) → max_bytes < length bytes → refused 20 ≡ counts_of (given n bytes)
+unfolding given counts_of
+long_unfit n bytes h = rw (lt-leb (length bytes) max_bytes h) refl
+
 module _ (n : ℕ) (bytes buffer : List ℕ) where
-  pub read_long : max_bytes < length bytes
-      → (refused 20 ≡ counts_of (given n bytes)) × (buffer ≡ over (words_of (given n bytes)) buffer)
-  unfolding given counts_of words_of
-  read_long h = (rw (lt-leb (length bytes) max_bytes h) refl, rw (lt-leb (length bytes) max_bytes h) refl)
+  pub long_kept : max_bytes < length bytes → buffer ≡ over (words_of (given n bytes)) buffer
+  unfolding given words_of
+  long_kept h = rw (lt-leb (length bytes) max_bytes h) refl
 
   few_words : 4 * length (words_of (called n bytes)) ≤ length bytes
   unfolding called words_of

@@ -21,6 +21,7 @@ pub const MAX_BYTES: usize = 65536;
 pub const MAX_WORDS: usize = MAX_BYTES / 4;
 
 // Writes the line of a refusal, as much as the buffer holds, and answers how much that is.
+#[tactic(auto, unfolding(crate::specs::Printed::refused_text))]
 pub fn write_refused(cause: Cause, text: &mut [u8]) -> usize
     ensures { Wrote (refused_text (number_of cause)) text.old text.new result }
 {
@@ -28,6 +29,7 @@ pub fn write_refused(cause: Cause, text: &mut [u8]) -> usize
 }
 
 // Reads arrays, as many as the given number, from no more bytes than may be read. No bytes hold more words than the array.
+#[tactic(auto, using(crate::proofs::Input::long_unfit, crate::proofs::Input::long_kept, crate::proofs::Input::read_short))]
 pub fn read_lists(
     bytes: &[u8],
     number: u32,
@@ -50,6 +52,7 @@ pub fn read_full<R: Read>(input: &mut R, bytes: &mut [u8]) -> io::Result<usize>
         Consumes (R.remaining input.old) (R.remaining input.new) (take n bytes.new)) }
     ensures end { IfOk result (λ n. n < length bytes.new → IsAtEnd (R.remaining input.new)) }
 {
+    // By `read`, since `read_exact` takes the input's end for an error.
     let mut done = 0;
     while done < bytes.len() {
         let count = input.read(&mut bytes[done..])?;

@@ -1,6 +1,6 @@
 -- Texts written one after another: the parts that a buffer holds of two texts are the part that it holds of both.
 -- Assumes nothing.
-use Prim.Native.Nat.{ℕ, zero, suc, ◌+◌, ◌-◌, ◌≤◌, ◌<◌}
+use Prim.Native.Nat.{ℕ, zero, suc, ◌+◌, ◌-◌, ◌≤◌, ◌<◌, min}
 use mathlib.Core.Path.{◌≡◌, refl, sym, ap, ap₂, ◌∙◌, subst}
 use mathlib.Core.List.{List, [], ◌∷◌, ◌++◌, append_assoc, append-nil}
 use native.Mathlib.Nat.{sub-zero}
@@ -57,6 +57,11 @@ module _ (text before after : List ℕ) (count : ℕ) (w : Wrote text before aft
         counted = ap₂ (λ (i j : ℕ). i + j) w.counted v.counted ∙ sym (length-append first (held more rest)) ∙ ap length both;
         stands = over_more first (held more rest) before after part count w.stands (sym w.counted) v.stands fits ∙ ap (λ (t : List ℕ). over t before) both;
       }
+
+-- a text that was put at the front
+pub wrote_put : (text before after : List ℕ) (count : ℕ) → count ≡ min (length text) (length before) → after ≡ over (held text before) before
+    → Wrote text before after count
+wrote_put text before after count counted stands = record { counted = omega (arith, length-take (length before) text); stands = stands }
 
 -- nothing written
 pub wrote_none : (before : List ℕ) → Wrote [] before before 0

@@ -5,25 +5,14 @@
 ghost use Rattle.text.specs.Lines.{number_text, numbers_text, line_text};
 ghost use Rattle.text.specs.Wrote.{Wrote};
 
-// Writes bytes.
-fn put(buffer: &mut [u8], bytes: &[u8]) -> usize
-    ensures { Wrote bytes.now buffer.old buffer.new result }
-{
-    let count = lists::least(bytes.len(), buffer.len());
-    for i in 0..count {
-        buffer[i] = bytes[i];
-    }
-    count
-}
-
 // Writes a number after a space.
 fn put_number(buffer: &mut [u8], number: u32) -> usize
     ensures { Wrote (number_text number) buffer.old buffer.new result }
 {
     let mut digits = [0u8; 20];
-    let count = io::decimal(number as u64, &mut digits);
-    let at = put(buffer, b" ");
-    at + put(&mut buffer[at..], &digits[..count])
+    let count = io::decimal(u64::from(number), &mut digits);
+    let at = lists::put(buffer, b" ");
+    at + lists::put(&mut buffer[at..], &digits[..count])
 }
 
 // Writes numbers, each after a space.
@@ -31,8 +20,8 @@ fn put_numbers(buffer: &mut [u8], numbers: &[u32]) -> usize
     ensures { Wrote (numbers_text numbers.now) buffer.old buffer.new result }
 {
     let mut at = 0;
-    for i in 0..numbers.len() {
-        at += put_number(&mut buffer[at..], numbers[i]);
+    for &number in numbers {
+        at += put_number(&mut buffer[at..], number);
     }
     at
 }
@@ -41,7 +30,7 @@ fn put_numbers(buffer: &mut [u8], numbers: &[u32]) -> usize
 pub fn put_line(buffer: &mut [u8], word: &[u8], numbers: &[u32]) -> usize
     ensures { Wrote (line_text word.now numbers.now) buffer.old buffer.new result }
 {
-    let first = put(buffer, word);
+    let first = lists::put(buffer, word);
     let last = first + put_numbers(&mut buffer[first..], numbers);
-    last + put(&mut buffer[last..], b"\n")
+    last + lists::put(&mut buffer[last..], b"\n")
 }

@@ -1,13 +1,12 @@
 -- `put_numbers` meets its contract: after i turns the first i numbers are written.
-use Rattle.std.proofs.Common.{refl, arith}
+use Rattle.std.proofs.Common.{arith}
 use Rattle.text.proofs.Writing.{wrote_as, wrote_more, numbers_none, numbers_next}
 use Rattle.text.proofs.put_numbers.Goals as goal
 
-pub loop-i-init : goal.loop-i-init
-loop-i-init c = (refl, numbers_none c.args.buffer.now)
+pub loop-number-init : goal.loop-number-init
+loop-number-init c = numbers_none c.args.buffer.now
 
-pub loop-i-preserved : goal.loop-i-preserved
-loop-i-preserved c = (
-  refl,
-  wrote_as _ _ _ _ (wrote_more _ _ _ _ c.loop-i.invariant.1 _ _ _ c.put_number-at.ensures) _ (numbers_next c.args.numbers.now c.loop-i.i (omega arith)),
-)
+pub loop-number-preserved : goal.loop-number-preserved
+loop-number-preserved c =
+    wrote_as _ _ _ _ (wrote_more _ _ _ _ c.loop-number.invariant _ _ _ c.put_number-at.ensures) _
+    (numbers_next c.args.numbers.now c.loop-number.number-index (omega arith))
