@@ -1,40 +1,19 @@
 -- A table with variables fixed, one after another, at its own front: the entries of a fold are made of two that are not yet written over.
 -- Assumes nothing.
-use mathlib.Core.Path.{◌≡◌, sym, ap, ap₂, ◌∙◌}
+use mathlib.Core.Path.{◌≡◌, sym, ap, ◌∙◌}
 use mathlib.Core.List.{List, [], ◌∷◌, ◌++◌}
 use Prim.Native.Nat.{ℕ, ◌+◌, ◌/◌, ◌≤◌, ◌<◌}
 use native.Mathlib.Omega.{arith}
-use lib.ListN.{length, take, drop, get_or, set}
-use lib.Seq.{length-take-le}
+use lib.ListN.{length, take, drop, get_or}
+use lib.Seq.{length-take-le, take_all}
 use Rattle.lists.specs.Buffer.{over}
 use Rattle.lists.proofs.Steps.{take_up}
-use Rattle.lists.proofs.Storing.{Stored, kept, next, start as stored-start, end as stored-end}
 use Rattle.algebra.specs.Numbers.{Numbers}
-use Rattle.multilinear.specs.Extension.{between, fold}
+use Rattle.multilinear.specs.Extension.{fold}
 use Rattle.multilinear.specs.Tables.{folded}
-use Rattle.multilinear.proofs.Tables.{length_fold, get_d_fold, folded_none, folded_one, folded_append}
+use Rattle.multilinear.proofs.Tables.{length_fold, folded_none, folded_one, folded_append}
 use Rattle.tables.specs.Limits.{table_width}
 use Rattle.tables.proofs.Front.{length_back, front_back}
-
-module _ {C : Type 0} (N : Numbers C) (r : C) (t₀ : List C) where
-  abbrev half : ℕ
-  half = length t₀ / 2
-
-  -- b entries of the fold stand
-  abbrev pub Fold : List C → ℕ → Type 0
-  Fold t b = Stored (fold N r t₀) t₀ t b
-
-  pub start : Fold t₀ 0
-  start = stored-start (fold N r t₀) t₀ (omega (arith, length_fold N r t₀))
-
-  pub step : (t : List C) (b : ℕ) (d x : C) → Fold t b → b < half → x ≡ between N r (get_or t b d) (get_or t (half + b) d)
-      → Fold (set t b x) (b + 1)
-  step t b d x h more e =
-      next h d x (omega (arith, length_fold N r t₀))
-      (e ∙ ap₂ (between N r) (kept h b d (omega arith)) (kept h (half + b) d (omega arith)) ∙ sym (get_d_fold N r t₀ b d more))
-
-  pub end : (t : List C) (b : ℕ) → Fold t b → half ≤ b → t ≡ over (fold N r t₀) t₀
-  end t b h all = stored-end h (omega (arith, length_fold N r t₀))
 
 -- the first variables of vs fixed at the first i coordinates of a point, at the front of a table
 module _ {C : Type 0} (N : Numbers C) (point vs : List C) where
@@ -69,3 +48,11 @@ module _ {C : Type 0} (N : Numbers C) (point vs : List C) where
             ∙ sym (folded_append N (take i point) (r ∷ []) vs)
             ∙ ap (λ (xs : List C). folded N xs vs) (sym (take_up point i N.𝟘 more));
       }
+
+  -- with all coordinates passed the table is the folded one
+  pub all_fixed : (l : List C) (n i : ℕ) → Fixed l n i → length point ≤ i → take (length (folded N point vs)) l ≡ folded N point vs
+  all_fixed l n i h all =
+      let within = h.within in
+      let size = h.size in
+      let whole : take n l ≡ folded N point vs = h.holds ∙ ap (λ (xs : List C). folded N xs vs) (take_all i point all) in
+      ap (λ (m : ℕ). take m l) (sym (ap length whole) ∙ length-take-le n l (omega arith)) ∙ whole

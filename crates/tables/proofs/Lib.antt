@@ -1,3 +1,4 @@
 pub mod Front
+pub mod Pairing
 pub mod Spreading
 pub mod Folding

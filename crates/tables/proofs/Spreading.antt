@@ -1,17 +1,19 @@
--- The weights of all indices, from the last coordinate on. One turn of the loop within `spread` writes an entry of each half; one turn of
--- `weights` makes both halves from the weights at the coordinates passed.
+-- The weights of all indices, from the last coordinate on: one turn of `weights` makes both halves of a table from the weights at the coordinates
+-- passed.
 -- Assumes nothing.
-use mathlib.Core.Path.{◌≡◌, refl, sym, ap, ap₂, ◌∙◌}
-use mathlib.Core.List.{List, [], ◌∷◌, ◌++◌, map, append_assoc, append-nil}
-use Prim.Native.Nat.{ℕ, suc, ◌+◌, ◌-◌, ◌*◌, ◌/◌, ◌^◌, ◌≤◌, ◌<◌}
-use native.Mathlib.Nat.{zero-add, suc-add, sub_self, two-pow-succ}
+use mathlib.Core.Path.{◌≡◌, refl, sym, ap, ◌∙◌}
+use mathlib.Core.List.{List, [], ◌∷◌, ◌++◌, map, reverse}
+use Prim.Native.Nat.{ℕ, suc, ◌*◌, ◌/◌, ◌^◌, ◌≤◌, ◌<◌, min}
+use native.Mathlib.Nat.{two-pow-succ}
 use native.Mathlib.Omega.{arith}
-use lib.ListN.{length, take, drop, get_or, set, length-map, length-drop, length-append, take-append-drop, drop_of_length-le, get_or-append}
-use lib.Seq.{length-take-le, get_or-take, set-append_left, drop-drop, take-take}
+use lib.ListN.{length, take, drop, length-map, length-take}
+use lib.Seq.{length-take-le, take-take}
+use Rattle.std.specs.Prelude.{Option, Some}
+use Rattle.std.specs.Iterator.{Yields}
+use Rattle.std.proofs.lemmas.List.{length-reverse}
+use Rattle.std.proofs.lemmas.Iterator.{YieldsList}
+use Rattle.std.proofs.lemmas.Iterator.Consumers.{YieldsList-turn}
 use Rattle.lists.specs.Buffer.{over}
-use Rattle.lists.proofs.Steps.{drop_down}
-use Rattle.lists.proofs.Storing.{Stored, kept, next, start as stored-start, end as stored-end}
-use Rattle.lists.proofs.Map.{get_d_map_lt}
 use Rattle.algebra.specs.Numbers.{Numbers}
 use Rattle.multilinear.specs.Tables.{weights}
 use Rattle.multilinear.proofs.Tables.{length_weights}
@@ -24,134 +26,50 @@ weights_more : {C : Type 0} (N : Numbers C) (z : C) (zs : List C) → weights N 
 unfolding weights spread
 weights_more N z zs = refl
 
--- a word stored behind a list's front
-set_append_add : {A : Type 0} (xs ys : List A) (i : ℕ) (a : A) → set (xs ++ ys) (length xs + i) a ≡ xs ++ set ys i a
-set_append_add [] ys i a = ap (λ (n : ℕ). set ys n a) (zero-add i)
-set_append_add (x ∷ xs) ys i a =
-    ap (λ (n : ℕ). set (x ∷ (xs ++ ys)) n a) (suc-add (length xs) i) ∙ ap (λ t. x ∷ t) (set_append_add xs ys i a)
+-- a turn finds fewer coordinates passed than a row holds
+pub few_passed : {S A B : Type 0} {steps : S → Option A → S → Type 0} {v : A → B} {s : S} (point : List B) (n : ℕ) → n ≡ min row_length (length point)
+    → YieldsList steps v s (reverse (take n point)) → (items : List A) (t : S) → Yields steps s items t → (r : Option A) (u : S) (x : A) → r ≡ Some x
+    → steps t r u → length (reverse (map v items)) < row_length
+few_passed {v = v} point n size all items t y r u x e more =
+    let turn = YieldsList-turn all items t y r u x e more in
+    omega (arith, turn.0, length-reverse (take n point), length-take n point, length-reverse (map v items), length-map items v)
 
-module _ {C : Type 0} (N : Numbers C) (z : C) (t₀ : List C) where
-  abbrev half : ℕ
-  half = length t₀ / 2
-
-  abbrev low : List C
-  low = map (λ w. N.mul (N.sub N.𝟙 z) w) (take half t₀)
-
-  abbrev high : List C
-  high = map (λ w. N.mul z w) (take half t₀)
-
-  length_front : length (take half t₀) ≡ half
-  length_front = length-take-le half t₀ (omega arith)
-
-  length_low : length low ≡ half
-  length_low = length-map (take half t₀) (λ w. N.mul (N.sub N.𝟙 z) w) ∙ length_front
-
-  length_high : length high ≡ half
-  length_high = length-map (take half t₀) (λ w. N.mul z w) ∙ length_front
-
-  -- b entries of each half stand
-  pub record Spread (t : List C) (b : ℕ) : Type 0 where
-    pub lows : List C
-    pub highs : List C
-    pub written : t ≡ lows ++ highs
-    pub below : Stored low (take half t₀) lows b
-    pub above : Stored high (drop half t₀) highs b
-
-  pub start : Spread t₀ 0
-  start = record {
-    lows = take half t₀;
-    highs = drop half t₀;
-    written = sym (take-append-drop half t₀);
-    below = stored-start low (take half t₀) (omega (arith, length_low, length_front));
-    above = stored-start high (drop half t₀) (omega (arith, length_high, length-drop half t₀));
-  }
-
-  scaled : (b : ℕ) (c d : C) → b < half → N.mul c (get_or t₀ b d) ≡ get_or (map (λ w. N.mul c w) (take half t₀)) b d
-  scaled b c d h =
-      sym (get_d_map_lt (λ w. N.mul c w) (take half t₀) b d d (omega (arith, length_front)) ∙ ap (N.mul c) (get_or-take half t₀ b d h))
-
-  pub step : (t : List C) (b : ℕ) (x y : C) → Spread t b → b < half → x ≡ N.mul z (get_or t b N.𝟘)
-      → y ≡ N.mul (N.sub N.𝟙 z) (get_or t b N.𝟘) → Spread (set (set t (half + b) x) b y) (b + 1)
-  step t b x y h more ex ey =
-      let lows = h.lows in
-      let highs = h.highs in
-      let size : length lows ≡ half = h.below.size ∙ length_front in
-      let same : get_or t b N.𝟘 ≡ get_or t₀ b N.𝟘 =
-      ap (λ (l : List C). get_or l b N.𝟘) h.written ∙ get_or-append lows highs N.𝟘 b (omega arith)
-      ∙ kept h.below b N.𝟘 (omega arith) ∙ get_or-take half t₀ b N.𝟘 more in
-      record {
-        lows = set lows b y;
-        highs = set highs b x;
-        written = ap (λ (l : List C). set (set l (half + b) x) b y) h.written
-            ∙ ap (λ (n : ℕ). set (set (lows ++ highs) (n + b) x) b y) (sym size)
-            ∙ ap (λ (l : List C). set l b y) (set_append_add lows highs b x)
-            ∙ set-append_left lows (set highs b x) b y (omega arith);
-        below = next h.below N.𝟘 y (omega (arith, length_low)) (ey ∙ ap (N.mul (N.sub N.𝟙 z)) same ∙ scaled b (N.sub N.𝟙 z) N.𝟘 more);
-        above = next h.above N.𝟘 x (omega (arith, length_high)) (ex ∙ ap (N.mul z) same ∙ scaled b z N.𝟘 more);
-      }
-
-  pub end : (t : List C) (b : ℕ) → Spread t b → half ≤ b → t ≡ over (spread N z (take half t₀)) t₀
-  unfolding spread
-  end t b h all =
-      let el = length_low in
-      let eh = length_high in
-      let none : drop (length low) (take half t₀) ≡ [] = drop_of_length-le (take half t₀) {i = length low} (omega (arith, length_front)) in
-      let far : half + length high ≡ length (low ++ high) = sym (length-append low high ∙ ap (λ (n : ℕ). n + length high) el) in
-      h.written
-      ∙ ap₂ (λ (l m : List C). l ++ m) (stored-end h.below (omega arith)) (stored-end h.above (omega arith))
-      ∙ ap₂ (λ (l m : List C). (low ++ l) ++ (high ++ m)) none (drop-drop (length high) half t₀ ∙ ap (λ (n : ℕ). drop n t₀) far)
-      ∙ ap (λ (l : List C). l ++ (high ++ drop (length (low ++ high)) t₀)) (append-nil low)
-      ∙ sym (append_assoc low high (drop (length (low ++ high)) t₀))
-
--- the weights at the coordinates of a point from `left` on, at the front of a table
-module _ {C : Type 0} (N : Numbers C) (point : List C) where
-  pub record Weighed (l : List C) (n left : ℕ) : Type 0 where
-    pub reached : left ≤ length point
-    pub few : length point ≤ row_length
-    pub count : n ≡ 2 ^ (length point - left)
+-- the weights at the coordinates passed, from a point's last on, at the front of a table
+module _ {C : Type 0} (N : Numbers C) where
+  pub record Weighed (passed l : List C) (n : ℕ) : Type 0 where
+    pub count : n ≡ 2 ^ length passed
     pub size : length l ≡ table_width
-    pub holds : take n l ≡ weights N (drop left point)
+    pub holds : take n l ≡ weights N passed
 
-  pub none_weighed : (l : List C) (left : ℕ) → length point ≤ row_length → left ≡ length point → length l ≡ table_width → take 1 l ≡ N.𝟙 ∷ []
-      → Weighed l 1 left
+  pub none_weighed : (l : List C) → length l ≡ table_width → take 1 l ≡ N.𝟙 ∷ [] → Weighed [] l 1
   unfolding weights
-  none_weighed l left few e size h = record {
-    reached = omega arith;
-    few = few;
-    count = ap (λ (k : ℕ). 2 ^ k) (sym (sub_self (length point)) ∙ ap (λ (k : ℕ). length point - k) (sym e));
-    size = size;
-    holds = h ∙ sym (ap (weights N) (drop_of_length-le point {i = left} (omega arith)));
-  }
+  none_weighed l size h = record { count = refl; size = size; holds = h }
 
-  -- twice as many weights fit
-  pub room : (l : List C) (n left : ℕ) → Weighed l n left → 0 < left → 2 * n ≤ table_width
-  room l n left h more =
-      let few = h.few in
-      let reached = h.reached in
-      omega (arith, h.count, two-pow-succ (length point - left), weights_fit (suc (length point - left)) (omega arith))
+  module _ {passed l : List C} {n : ℕ} (h : Weighed passed l n) (few : length passed < row_length) where
+    -- twice as many weights fit
+    pub room : n * 2 ≤ table_width
+    room = omega (arith, h.count, two-pow-succ (length passed), weights_fit (suc (length passed)) few)
 
-  pub weigh_next : (l part : List C) (n left : ℕ) (z : C) → Weighed l n left → 0 < left → z ≡ get_or point (left - 1) N.𝟘
-      → part ≡ over (spread N z (take (length (take (2 * n) l) / 2) (take (2 * n) l))) (take (2 * n) l)
-      → Weighed (part ++ drop (2 * n) l) (2 * n) (left - 1)
-  weigh_next l part n left z h more ez e =
-      let fits = room l n left h more in
-      let size = h.size in
-      let reached = h.reached in
-      let longer : length point - (left - 1) ≡ suc (length point - left) = omega arith in
-      let twice : 2 * n ≡ 2 ^ (length point - (left - 1)) =
-      ap (λ (m : ℕ). 2 * m) h.count ∙ sym (ap (λ (k : ℕ). 2 ^ k) longer ∙ two-pow-succ (length point - left) ∙ omega arith) in
-      let lent : length (take (2 * n) l) / 2 ≡ n = ap (λ (m : ℕ). m / 2) (length-take-le (2 * n) l (omega arith)) ∙ omega arith in
-      let before : take (length (take (2 * n) l) / 2) (take (2 * n) l) ≡ weights N (drop left point) =
-      ap (λ (m : ℕ). take m (take (2 * n) l)) lent ∙ take-take n (2 * n) l (omega arith) ∙ h.holds in
-      let ws : List C = spread N z (take (length (take (2 * n) l) / 2) (take (2 * n) l)) in
-      let made : ws ≡ weights N (drop (left - 1) point) =
-      ap₂ (spread N) ez before ∙ sym (ap (weights N) (drop_down point left N.𝟘 more reached) ∙ weights_more N (get_or point (left - 1) N.𝟘) (drop left point)) in
-      let all : length ws ≡ 2 * n =
-      ap length made ∙ length_weights N (drop (left - 1) point) ∙ ap (λ (k : ℕ). 2 ^ k) (length-drop (left - 1) point) ∙ sym twice in
-      record {
-        reached = omega arith;
-        few = h.few;
-        count = twice;
-        size = length_back l part ws (2 * n) e (omega arith) (omega arith) ∙ size;
-        holds = ap (λ (m : ℕ). take m (part ++ drop (2 * n) l)) (sym all) ∙ front_back l part ws (2 * n) e ∙ made;
-      }
+    pub weigh_next : (part : List C) (z : C)
+        → part ≡ over (spread N z (take (length (take (n * 2) l) / 2) (take (n * 2) l))) (take (n * 2) l)
+        → Weighed (z ∷ passed) (part ++ drop (n * 2) l) (n * 2)
+    weigh_next part z e =
+        let fits = room in
+        let size = h.size in
+        let twice : n * 2 ≡ 2 ^ suc (length passed) = omega (arith, h.count, two-pow-succ (length passed)) in
+        let lent : length (take (n * 2) l) / 2 ≡ n = ap (λ (m : ℕ). m / 2) (length-take-le (n * 2) l (omega arith)) ∙ omega arith in
+        let before : take (length (take (n * 2) l) / 2) (take (n * 2) l) ≡ weights N passed =
+        ap (λ (m : ℕ). take m (take (n * 2) l)) lent ∙ take-take n (n * 2) l (omega arith) ∙ h.holds in
+        let ws : List C = spread N z (take (length (take (n * 2) l) / 2) (take (n * 2) l)) in
+        let made : ws ≡ weights N (z ∷ passed) = ap (spread N z) before ∙ sym (weights_more N z passed) in
+        let all : length ws ≡ n * 2 = ap length made ∙ length_weights N (z ∷ passed) ∙ sym twice in
+        record {
+          count = twice;
+          size = length_back l part ws (n * 2) e (omega arith) (omega arith) ∙ size;
+          holds = ap (λ (m : ℕ). take m (part ++ drop (n * 2) l)) (sym all) ∙ front_back l part ws (n * 2) e ∙ made;
+        }
+
+  pub all_weighed : (passed l point : List C) (n : ℕ) → Weighed passed l n → passed ≡ point → take (length (weights N point)) l ≡ weights N point
+  all_weighed passed l point n h e =
+      ap (λ (m : ℕ). take m l) (length_weights N point ∙ ap (λ (p : List C). 2 ^ length p) (sym e) ∙ sym h.count)
+      ∙ h.holds ∙ ap (weights N) e

@@ -1,15 +1,16 @@
 // Tables over the gates of a layer, modulo a field's modulus: the weights of all indices at a point, and values with their first variables
-// fixed. A row's first k words are the point; a k above its length stands for all of it. All of it is right for any words. The caller lends
-// the table, so that none is copied on the way back; one of another length than MAX_WIDTH is left as it was.
+// fixed. A point longer than MAX_COORDINATES counts by as many of its first words. All of it is right for any words. The caller lends the
+// table, so that none is copied on the way back; one of another length than MAX_WIDTH is left as it was.
 #![tactic(auto)]
 
-ghost use Rattle.std.specs.Prelude.{◌≡◌, ◌/◌, length, take};
+ghost use Rattle.std.specs.Prelude.{ℕ, ◌≡◌, ◌/◌, length, take};
 ghost use Rattle.lists.specs.Buffer.{over};
 ghost use Rattle.field.specs.Modulus.{numbers};
+ghost use Rattle.extension.specs.Limits.{row_length};
 ghost use Rattle.multilinear.specs.Extension.{fold};
 ghost use Rattle.multilinear.specs.Tables.{weights, folded};
 ghost use Rattle.tables.specs.Limits.{table_width};
-ghost use Rattle.tables.specs.Table.{Written, spread};
+ghost use Rattle.tables.specs.Table.{Written, spread, paired};
 
 use extension::MAX_COORDINATES;
 use field::Field;
@@ -17,36 +18,44 @@ use field::Field;
 // The words of a table.
 pub const MAX_WIDTH: usize = 256;
 
+// Replaces each pair of words, one from either half of a table, by the two that the step makes of them.
+fn each_pair<F: Fn(u32, u32) -> (u32, u32)>(table: &mut [u32], step: F)
+    requires { F.IsAlwaysCallable step }
+    ensures { (a b : ℕ → ℕ → ℕ) → ((x y : ℕ) (r : ℕ × ℕ) → F.post step x y r → r ≡ (a x y, b x y)) → table.new ≡ paired a b table.old }
+{
+    let half = table.len() / 2;
+    let (lower, upper) = table.split_at_mut(half);
+    for (i, low) in lower.iter_mut().enumerate() {
+        (*low, upper[i]) = step(*low, upper[i]);
+    }
+}
+
 // Puts z before the point whose weights are the first half of a table: its two factors make two halves. What z takes of a weight is a product,
 // what 1 - z takes of it is the rest.
 fn spread(f: Field, table: &mut [u32], z: u32)
     ensures { table.new ≡ over (spread (numbers f) z (take (length table.old / 2) table.old)) table.old }
 {
-    let half = table.len() / 2;
     let by = f.multiplier(z);
-    for b in 0..half {
-        let weight = table[b];
+    each_pair(table, |weight, _| {
         let taken = f.times(by, weight);
-        table[half + b] = taken;
-        table[b] = f.sub(weight, taken);
-    }
+        (f.sub(weight, taken), taken)
+    });
 }
 
 // Writes the weights of all indices at the point to a table's front. The first variable has the highest bit, so the last coordinate comes
 // first.
-pub fn weights(f: Field, row: [u32; MAX_COORDINATES], k: usize, table: &mut [u32])
-    ensures { Written (weights (numbers f) (take k row)) table.old table.new }
+pub fn weights(f: Field, point: &[u32], table: &mut [u32])
+    ensures { Written (weights (numbers f) (take row_length point.now)) table.old table.new }
 {
     if table.len() != MAX_WIDTH {
         return;
     }
     table[0] = Field::ONE;
     let mut n = 1;
-    let mut left = lists::least(k, MAX_COORDINATES);
-    while 0 < left {
-        left -= 1;
-        n = 2 * n;
-        spread(f, &mut table[..n], row[left]);
+    let count = MAX_COORDINATES.min(point.len());
+    for &z in point[..count].iter().rev() {
+        n *= 2;
+        spread(f, &mut table[..n], z);
     }
 }
 
@@ -54,25 +63,24 @@ pub fn weights(f: Field, row: [u32; MAX_COORDINATES], k: usize, table: &mut [u32
 fn fold(f: Field, table: &mut [u32], r: u32)
     ensures { table.new ≡ over (fold (numbers f) r table.old) table.old }
 {
-    let half = table.len() / 2;
     let by = f.multiplier(r);
-    for b in 0..half {
-        let low = table[b];
-        table[b] = f.add(low, f.times(by, f.sub(table[half + b], low)));
-    }
+    each_pair(
+        table,
+        |low, high| (f.add(low, f.times(by, f.sub(high, low))), high),
+    );
 }
 
 // Writes the values with their first variables fixed at the point to a table's front. Of more than MAX_WIDTH values the first MAX_WIDTH count.
-pub fn folded(f: Field, values: &[u32], row: [u32; MAX_COORDINATES], k: usize, table: &mut [u32])
-    ensures { Written (folded (numbers f) (take k row) (take table_width values.now)) table.old table.new }
+pub fn folded(f: Field, values: &[u32], point: &[u32], table: &mut [u32])
+    ensures { Written (folded (numbers f) (take row_length point.now) (take table_width values.now)) table.old table.new }
 {
     if table.len() != MAX_WIDTH {
         return;
     }
-    lists::put(table, values);
-    let mut n = lists::least(MAX_WIDTH, values.len());
-    for i in 0..lists::least(k, MAX_COORDINATES) {
-        fold(f, &mut table[..n], row[i]);
-        n = n / 2;
+    let mut n = lists::put(table, values);
+    let coordinates = &point[..MAX_COORDINATES.min(point.len())];
+    for &r in coordinates {
+        fold(f, &mut table[..n], r);
+        n /= 2;
     }
 }

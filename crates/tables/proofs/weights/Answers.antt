@@ -1,29 +1,60 @@
 -- `weights` meets its contract. The loop keeps `Weighed`: at the front stand the weights at the coordinates passed, from the last on.
-use Prim.Native.Nat.{◌-◌}
-use native.Mathlib.Omega.{arith}
-use mathlib.Core.Path.{◌≡◌, sym, ◌∙◌}
-use lib.ListN.{length, take, get_or, length-take, length-set}
-use lib.Seq.{get_or-take, take-suc-set}
-use Rattle.lists.proofs.Parts.{length_most}
+use Rattle.std.proofs.Common.{arith, Bor, ℕ, take, reverse, sym, ap, ◌∙◌}
+use lib.Seq.{take-suc-set, length-take-le}
+use lib.ListN.{length-set}
+use Rattle.std.proofs.lemmas.List.{reverse-reverse}
+use Rattle.std.proofs.lemmas.Iterator.Adapters.{YieldsList-from_rev_slice}
+use Rattle.std.proofs.lemmas.Iterator.Consumers.{YieldsList-end}
+use Rattle.lists.proofs.Parts.{take_most}
 use Rattle.extension.specs.Limits.{row_length}
-use Rattle.tables.proofs.Spreading.{none_weighed, weigh_next}
-use borrow.Author.Rules.{rules}
+use Rattle.extension.proofs.Product.{one_passed}
+use Rattle.tables.proofs.Spreading.{few_passed, none_weighed, room, weigh_next, all_weighed}
 use Rattle.tables.proofs.weights.Goals as goal
 
-pub loop-left-init : goal.loop-left-init
-loop-left-init c =
-    let k = c.args.k in
-    let row = c.args.row in
-    let least = c.least-left.ensures in
-    let count : c.least-left.result ≡ length (take k row) = length_most k row_length _ row (search rules) least in
+pub loop-z-init : goal.loop-z-init
+loop-z-init c =
     let table = c.args.table.now in
     let size = c.if-table-ne-MAX_WIDTH.false in
-    none_weighed _ _ _ c.least-left.result (omega arith) count (length-set table 0 _ ∙ size) (take-suc-set table 0 _ (omega arith))
+    none_weighed _ _ (length-set table 0 _ ∙ size) (take-suc-set table 0 _ (omega arith))
 
-pub loop-left-preserved : goal.loop-left-preserved
-loop-left-preserved c =
-    let row = c.args.row in
-    let k = c.args.k in
-    let left = c.loop-left.left in
-    weigh_next _ _ c.loop-left.table _ c.loop-left.n left (get_or row (left - 1) 0) c.loop-left.invariant (search rules)
-    (sym (get_or-take k row (left - 1) 0 (omega (arith, length-take k row, c.loop-left.invariant.reached)))) c.spread.ensures
+pub overflow_mul-n : goal.overflow_mul-n
+overflow_mul-n c =
+    let few =
+    few_passed c.args.point.now c.min-count.result c.min-count.ensures (YieldsList-from_rev_slice (take c.min-count.result c.args.point.now) cc)
+    c.loop-z.yielded _ c.loop-z.yielded_by _ _ _ c.in-Some.is c.next.ensures.steps in
+    let fits = room _ c.loop-z.invariant few in
+    omega arith
+
+pub slice_bounds-spread-end : goal.slice_bounds-spread-end
+slice_bounds-spread-end c =
+    let few =
+    few_passed c.args.point.now c.min-count.result c.min-count.ensures (YieldsList-from_rev_slice (take c.min-count.result c.args.point.now) cc)
+    c.loop-z.yielded _ c.loop-z.yielded_by _ _ _ c.in-Some.is c.next.ensures.steps in
+    let fits = room _ c.loop-z.invariant few in
+    omega arith
+
+pub slice_bounds-spread-end-in-loop-z : goal.slice_bounds-spread-end-in-loop-z
+slice_bounds-spread-end-in-loop-z c =
+    let few =
+    few_passed c.args.point.now c.min-count.result c.min-count.ensures (YieldsList-from_rev_slice (take c.min-count.result c.args.point.now) cc)
+    c.loop-z.yielded _ c.loop-z.yielded_by _ _ _ c.in-Some.is c.next.ensures.steps in
+    let fits = room _ c.loop-z.invariant few in
+    sym (length-take-le _ c.loop-z.table (omega arith))
+
+pub loop-z-preserved : goal.loop-z-preserved
+loop-z-preserved c =
+    let few =
+    few_passed c.args.point.now c.min-count.result c.min-count.ensures (YieldsList-from_rev_slice (take c.min-count.result c.args.point.now) cc)
+    c.loop-z.yielded _ c.loop-z.yielded_by _ _ _ c.in-Some.is c.next.ensures.steps in
+    rw (one_passed (λ (z : Bor ℕ). z.now) c.loop-z.yielded c.in-Some.field-0)
+    (weigh_next _ c.loop-z.invariant few _ _ c.spread.ensures)
+
+pub returns : goal.returns
+returns c =
+    let point = c.args.point.now in
+    let all = YieldsList-end (YieldsList-from_rev_slice (take c.min-count.result point) cc) c.loop-z.yielded _ c.loop-z.yielded_by _ _ c.in-None.is c.next.ensures.steps in
+    let passed = ap reverse all.0 ∙ reverse-reverse (take c.min-count.result point) ∙ ap (λ (n : ℕ). take n point) c.min-count.ensures ∙ take_most row_length point in
+    record {
+      whole = λ e. record { size = c.loop-z.invariant.size; holds = all_weighed _ _ _ _ _ c.loop-z.invariant passed };
+      other = λ e. absurd (e c.if-table-ne-MAX_WIDTH.false);
+    }
