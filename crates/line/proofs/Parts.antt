@@ -38,29 +38,28 @@ module _ {C : Type 0} (N : Numbers C) (vs u v : List C) (same : length u ≡ len
       let sizes : length (drop 1 u) ≡ length (drop 1 v) = simp length-drop (omega arith) in
       rw (rest-u, rest-v) (length_line_halving N ws (drop 1 u) (drop 1 v) sizes ∙ simp length-drop (omega arith))
 
-  pub from_halves : (row low high : List C) → low ≡ over (line (take half vs)) row → high ≡ line (take (length vs - half) (drop half vs))
+  pub from_halves : (row low high : List C) → low ≡ over (line (take half vs)) row → high ≡ line (drop half vs)
       → over (joined (take (length high) low) high) low ≡ over (line_halving N vs u v) row
   from_halves row low high l h =
       let rest-u = rest_lent u 1 (length u) refl in
       let rest-v = rest_lent v 1 (length v) refl in
-      let upper = rest_lent vs half (length vs) refl in
       let front : take (length high) low ≡ line (take half vs) =
-      take_front (line (take half vs)) row low (length high) l (length_half (take half vs) ∙ sym (ap length h ∙ length_half (take (length vs - half) (drop half vs)))) in
-      let whole : joined (line (take half vs)) (line (take (length vs - half) (drop half vs))) ≡ line_halving N vs u v =
-      rw (rest-u, rest-v, upper) (sym (line_step N vs u v N.𝟘 some (omega arith))) in
+      take_front (line (take half vs)) row low (length high) l (length_half (take half vs) ∙ sym (ap length h ∙ length_half (drop half vs))) in
+      let whole : joined (line (take half vs)) (line (drop half vs)) ≡ line_halving N vs u v =
+      rw (rest-u, rest-v) (sym (line_step N vs u v N.𝟘 some (omega arith))) in
       let size : length (line (take half vs)) ≡ length u = length_half (take half vs) in
       let long : length (line_halving N vs u v) ≡ suc (length u) = length_line_halving N vs u v same in
       ap₂ (λ (f g : List C). over (joined f g) low) front h ∙ ap₂ over whole l
       ∙ over_over (line (take half vs)) (line_halving N vs u v) row (omega arith)
 
   -- with one coordinate the halves' lines are single values
-  pub from_values : length u ≡ 1 → (row high : List C) → 0 < length row → high ≡ get_or (take (length vs - half) (drop half vs)) 0 N.𝟘 ∷ []
+  pub from_values : length u ≡ 1 → (row high : List C) → 0 < length row → high ≡ get_or (drop half vs) 0 N.𝟘 ∷ []
       → over (joined (take (length high) (set row 0 (get_or (take half vs) 0 N.𝟘))) high) (set row 0 (get_or (take half vs) 0 N.𝟘))
       ≡ over (line_halving N vs u v) row
   from_values one row high more h =
       from_halves row (set row 0 (get_or (take half vs) 0 N.𝟘)) high
       (from_first N (take half vs) (take (length u - 1) (drop 1 u)) (take (length v - 1) (drop 1 v)) row more none)
-      (h ∙ sym (line_none N (take (length vs - half) (drop half vs)) (take (length u - 1) (drop 1 u)) (take (length v - 1) (drop 1 v)) none))
+      (h ∙ sym (line_none N (drop half vs) (take (length u - 1) (drop 1 u)) (take (length v - 1) (drop 1 v)) none))
     where
       none : length (take (length u - 1) (drop 1 u)) ≡ 0
       none = let rest-u = rest_lent u 1 (length u) refl in rw rest-u (simp length-drop (omega arith))

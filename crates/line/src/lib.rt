@@ -19,10 +19,7 @@ pub const MAX_COEFFICIENTS: usize = 9;
 fn first(values: &[u32]) -> u32
     ensures { result ≡ get_or values.now 0 0 }
 {
-    if values.len() == 0 {
-        return Field::ZERO;
-    }
-    values[0]
+    values.first().copied().unwrap_or(Field::ZERO)
 }
 
 // The coefficients of low + (x + d X) × (high - low), one more than high has, over those of low at the front of the row.
@@ -30,17 +27,15 @@ fn along(f: Field, x: u32, d: u32, row: &mut [u32], high: &[u32])
     requires { length high.now < length row.old }
     ensures { row.new ≡ over (along (numbers f) x d 0 (take (length high.now) row.old) high.now) row.old }
 {
-    let m = high.len();
     let mut carry = Field::ZERO;
-    let mut i = 0;
-    while i < m {
+    // By index, since a proof knows no value of a word that `iter_mut().zip(..)` has lent.
+    for (i, &h) in high.iter().enumerate() {
         let a = row[i];
-        let difference = f.sub(high[i], a);
+        let difference = f.sub(h, a);
         row[i] = f.add(f.add(a, f.mul(x, difference)), f.mul(d, carry));
         carry = difference;
-        i += 1;
     }
-    row[m] = f.mul(d, carry);
+    row[high.len()] = f.mul(d, carry);
 }
 
 // The coefficients along the line from u to v, at the front of the row, from those of the values' halves; the number of coordinates that
@@ -49,24 +44,22 @@ fn halves(f: Field, values: &[u32], u: &[u32], v: &[u32], row: &mut [u32])
     requires { (length u.now ≡ length v.now) × (length u.now ≤ row_length) × (length u.now < length row.old) }
     ensures { row.new ≡ over (line_halving (numbers f) values.now u.now v.now) row.old }
 {
-    let m = u.len();
-    if m == 0 {
+    let [x, us @ ..] = u else {
         row[0] = first(values);
         return;
-    }
-    let half = values.len() / 2;
-    let x = u[0];
-    let d = f.sub(v[0], x);
-    if m == 1 {
-        row[0] = first(&values[..half]);
-        let upper = [first(&values[half..])];
-        along(f, x, d, row, &upper);
+    };
+    let d = f.sub(v[0], *x);
+    let vs = &v[1..];
+    let (lower, upper) = values.split_at(values.len() / 2);
+    if us.is_empty() {
+        row[0] = first(lower);
+        along(f, *x, d, row, &[first(upper)]);
         return;
     }
-    halves(f, &values[..half], &u[1..], &v[1..], row);
-    let mut upper = [0u32; MAX_COEFFICIENTS];
-    halves(f, &values[half..], &u[1..], &v[1..], &mut upper);
-    along(f, x, d, row, &upper[..m]);
+    halves(f, lower, us, vs, row);
+    let mut high = [0u32; MAX_COEFFICIENTS];
+    halves(f, upper, us, vs, &mut high);
+    along(f, *x, d, row, &high[..u.len()]);
 }
 
 // The coefficients, constant first, of the extension of the values along the line from the first row to the second, and 0 in the words
@@ -79,9 +72,8 @@ pub fn line_message(
 ) -> [u32; MAX_COEFFICIENTS]
     ensures { result ≡ padded (line_halving (numbers f) values.now (take k (get_or points 0 [])) (take k (get_or points 1 []))) }
 {
-    let n = lists::least(k, MAX_COORDINATES);
-    let u = points[0];
-    let v = points[1];
+    let n = k.min(MAX_COORDINATES);
+    let [u, v] = points;
     let mut row = [0u32; MAX_COEFFICIENTS];
     halves(f, values, &u[..n], &v[..n], &mut row);
     row

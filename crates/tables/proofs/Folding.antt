@@ -1,4 +1,4 @@
--- A table with variables fixed, one after another, at its own front: the entries of a fold are made of two that are not yet written over.
+-- A table with variables fixed, one after another, at its own front.
 -- Assumes nothing.
 use mathlib.Core.Path.{◌≡◌, sym, ap, ◌∙◌}
 use mathlib.Core.List.{List, [], ◌∷◌, ◌++◌}

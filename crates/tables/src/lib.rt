@@ -25,6 +25,7 @@ fn each_pair<F: Fn(u32, u32) -> (u32, u32)>(table: &mut [u32], step: F)
 {
     let half = table.len() / 2;
     let (lower, upper) = table.split_at_mut(half);
+    // The upper half by index, since a proof knows no value of a word that `iter_mut().zip(..)` has lent.
     for (i, low) in lower.iter_mut().enumerate() {
         (*low, upper[i]) = step(*low, upper[i]);
     }

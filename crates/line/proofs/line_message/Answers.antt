@@ -11,5 +11,5 @@ returns c =
     let rows = c.well_formed.1.1.0 in
     c.halves.ensures
     ∙ ap₂ (λ (u v : List ℕ). padded (line_halving (numbers c.args.f) c.args.values.now u v))
-    (part_of_row c.args.points _ 0 c.args.k _ rows (omega arith) c.least-n.ensures)
-    (part_of_row c.args.points _ 1 c.args.k _ rows (omega arith) c.least-n.ensures)
+    (part_of_row c.args.points _ 0 c.args.k _ rows (omega arith) c.min-n.ensures)
+    (part_of_row c.args.points _ 1 c.args.k _ rows (omega arith) c.min-n.ensures)
