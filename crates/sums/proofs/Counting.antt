@@ -14,7 +14,7 @@ use Rattle.circuit.specs.Gate.{Gate, operate}
 use Rattle.sumcheck.specs.Gatewise.{Side, coefficients, three_sums, gate_share, gate_is_one, gate_own, gate_other, sums_of}
 use Rattle.summand.specs.Gates.{gates_in}
 use Rattle.summand.proofs.Wires.{gate_at, sum_on, sum_none, sum_step, sum_all}
-use Rattle.sums.specs.declared.Wire.{Wire}
+use Rattle.sums.specs.declared.wires.Wire.{Wire}
 use Rattle.sums.specs.declared.Counts.{Counts}
 use Rattle.sums.specs.Wire.{Reads, Counted}
 

@@ -5,14 +5,14 @@ use mathlib.Core.Path.{◌≡◌, refl, sym, ap, ◌∙◌}
 use mathlib.Core.Bool.{Bool, not}
 use mathlib.Core.List.{List, [], ◌∷◌}
 use Prim.Native.Nat.{ℕ, ◌-◌, ◌/◌, ◌^◌, ◌≤◌, min}
-use native.Mathlib.Nat.{min-le_right, sub-add-min_cancel, div-one}
+use native.Mathlib.Nat.{sub-add-min_cancel, div-one}
 use native.Mathlib.Numerals.{one-add}
 use native.Mathlib.Decide.{dec_le}
 use native.Mathlib.Omega.{arith}
 use lib.Dec.{ltb, leb}
 use lib.ListN.{length, take, get_or, length-take}
 use lib.Pow.{shr-shr}
-use lib.Seq.{length-take-le}
+use lib.Seq.{length-take-le, take_all}
 use borrow.Author.Tests.{lt-ltb, le-ltb, le-leb, lt-leb}
 use Rattle.lists.proofs.Front.{front_take}
 use Rattle.lists.proofs.Parts.{take_least, take_most}
@@ -27,9 +27,9 @@ use Rattle.circuit.specs.Limits.{max_exponent}
 use Rattle.circuit.specs.Gate.{Gate}
 use Rattle.circuit.specs.Circuit.{width_of}
 use Rattle.circuit.proofs.Sized.{width_of_lem, width_small}
-use Rattle.sumcheck.specs.Gatewise.{side_of, sums_of, sum_by_gates}
-use Rattle.sums.specs.declared.Cut.{Cut}
-use Rattle.sums.specs.Wire.{CutAt, side}
+use Rattle.sumcheck.specs.Gatewise.{Side, side_of, sums_of, sum_by_gates}
+use Rattle.sums.specs.declared.wires.Cut.{Cut}
+use Rattle.sums.specs.Wire.{CutAt}
 use Rattle.sums.specs.Round.{fixed_first, fixed_second, side_at}
 
 -- THE LIMITS: a point of the largest exponent fills its row, and the values of such a layer fill a table
@@ -70,58 +70,66 @@ module _ (p : ℕ) where
       length_of_folded xs (fold N x vs) ∙ ap (λ (m : ℕ). m / 2 ^ length xs) (length_fold N x vs) ∙ shr-shr (length vs) 1 (length xs)
       ∙ ap (λ (m : ℕ). length vs / 2 ^ m) (one-add (length xs))
 
-  -- THE TABLES of a point with the first n coordinates of its row fixed: w shares are lent, and of m values what these leave
-  pub record Fixed (n m w : ℕ) (values row shares table : List ℕ) : Type 0 where
-    pub whole : length row ≡ row_length
-    pub within : n ≤ max_exponent
+  -- THE TABLES of a point with the coordinates xs fixed: w shares are lent, and of m values what these leave
+  pub record Fixed (m w : ℕ) (values xs shares table : List ℕ) : Type 0 where
+    pub within : length xs ≤ max_exponent
     pub values_are : m ≡ min table_width (length values)
-    pub width_is : w ≡ width_of n
-    pub weighed : Table (weights N (take n row)) shares
-    pub folds : Table (folded N (take n row) (take table_width values)) table
+    pub width_is : w ≡ width_of (length xs)
+    pub weighed : Table (weights N (take row_length xs)) shares
+    pub folds : Table (folded N (take row_length xs) (take table_width values)) table
 
-  module _ {n m w : ℕ} {values row shares table : List ℕ} (h : Fixed n m w values row shares table) where
+  abbrev pub cut_by : List ℕ → List ℕ → Cut → Side ℕ
+  cut_by shares table c = record { shares = shares; table = table; size = c.size; half = c.half }
+
+  module _ {m w : ℕ} {values xs shares table : List ℕ} (h : Fixed m w values xs shares table) where
+    all : take row_length xs ≡ xs
+    all = let within = h.within in take_all row_length xs (omega (arith, row_is))
+
     pub shares_within : w ≤ length shares
-    shares_within = width_within n w _ shares h.weighed h.width_is
+    shares_within = width_within (length xs) w _ shares h.weighed h.width_is
 
-    pub fixed_side : (k : ℕ) (next : Bool) (c : Cut) → CutAt k n next c → side (take w shares) (take (m / 2 ^ n) table) c ≡ side_at N k values row n next
+    pub fixed_side : (k : ℕ) (next : Bool) (c : Cut) → CutAt k (length xs) next c
+        → cut_by (take w shares) (take (m / 2 ^ length xs) table) c ≡ side_at N k values xs next
     fixed_side k next c cut =
-        let size : length (take n row) ≡ n = length-take-le n row (omega (arith, row_is)) in
-        let left : m / 2 ^ n ≡ length (folded N (take n row) (take table_width values)) =
-        rw (length_of_folded (take n row) (take table_width values), size, length-take table_width values) (ap (λ (j : ℕ). j / 2 ^ n) h.values_are) in
-        rw (weights_lent n w (take n row) shares size h.within h.width_is h.weighed, front_take h.folds (m / 2 ^ n) left, cut.size, cut.half, size)
+        let weighed : Table (weights N xs) shares = rw all at h.weighed in
+        let folds : Table (folded N xs (take table_width values)) table = rw all at h.folds in
+        let left : m / 2 ^ length xs ≡ length (folded N xs (take table_width values)) =
+        rw (length_of_folded xs (take table_width values), length-take table_width values) (ap (λ (j : ℕ). j / 2 ^ length xs) h.values_are) in
+        rw (weights_lent (length xs) w xs shares refl h.within h.width_is weighed, front_take folds (m / 2 ^ length xs) left, cut.size, cut.half)
 
   -- with none fixed: one share, and the values
-  pub open_side : (k n m : ℕ) (next : Bool) (values row : List ℕ) (c : Cut) → n ≡ 0 → CutAt k n next c → m ≡ min table_width (length values)
-      → side (1 ∷ []) (take m values) c ≡ side_at N k values row n next
+  pub open_side : (k m : ℕ) (next : Bool) (values xs : List ℕ) (c : Cut) → length xs ≡ 0 → CutAt k (length xs) next c → m ≡ min table_width (length values)
+      → cut_by (1 ∷ []) (take m values) c ≡ side_at N k values xs next
   unfolding weights folded
-  open_side k n m next values row c none cut em = rw (cut.size, cut.half, none, em, take_most)
+  open_side k m next values [] c none cut em = rw (cut.size, cut.half, em, take_most)
+  open_side k m next values (x ∷ xs) c none cut em = absurd (omega arith)
 
   -- A ROUND with its numbers of coordinates clipped, and the weights at its point in a table
-  pub record Clipped (k fixed above first second width : ℕ) (point table : List ℕ) (rows : List (List ℕ)) : Type 0 where
-    pub point_whole : length point ≡ row_length
-    pub row_whole : length (get_or rows 0 []) ≡ row_length
-    pub small : k ≤ max_exponent
+  pub record Clipped (k fixed first second width : ℕ) (point table : List ℕ) : Type 0 where
     pub first_is : first ≡ min fixed k
     pub second_is : second ≡ min (fixed - first) k
-    pub width_is : width ≡ width_of (min above row_length)
-    pub weighed : Table (weights N (take above point)) table
+    pub width_is : width ≡ width_of (min row_length (length point))
+    pub weighed : Table (weights N (take row_length point)) table
 
-  module _ {k fixed above first second width : ℕ} {point table : List ℕ} {rows : List (List ℕ)}
-      (h : Clipped k fixed above first second width point table rows) where
+  module _ {k fixed first second width : ℕ} {point table : List ℕ} (rows : List (List ℕ)) (h : Clipped k fixed first second width point table) where
     pub weights_within : width ≤ length table
     weights_within = width_within _ width _ table h.weighed h.width_is
 
-    pub round_is : (gs : List Gate) (vs : List ℕ)
-        → sums_of N (take width table) (side_of N k vs (take first (get_or rows 0 [])) (ltb first k)) (side_of N k vs (take second (get_or rows 1 [])) (leb k first)) gs
-        ≡ sum_by_gates N k gs (take above point) vs (fixed_first k fixed rows) (fixed_second k fixed rows)
+    abbrev us : List ℕ
+    us = take first (get_or rows 0 [])
+
+    abbrev vs : List ℕ
+    vs = take second (get_or rows 1 [])
+
+    pub round_is : (gs : List Gate) (values : List ℕ)
+        → sums_of N (take width table) (side_of N k values us (ltb (length us) k)) (side_of N k values vs (leb k (length us))) gs
+        ≡ sum_by_gates N k gs (take row_length point) values (fixed_first k fixed rows) (fixed_second k fixed rows)
     unfolding sum_by_gates
-    round_is gs vs =
-        let few : first ≤ k = omega (arith, min-le_right fixed k) in
-        let left : take first (get_or rows 0 []) ≡ fixed_first k fixed rows = rw h.first_is (take_least fixed k (get_or rows 0 [])) in
-        let rest : fixed - first ≡ fixed - k = omega (arith, sub-add-min_cancel fixed k) in
-        let right : take second (get_or rows 1 []) ≡ fixed_second k fixed rows = rw (h.second_is, rest) (take_least (fixed - k) k (get_or rows 1 [])) in
-        let count : first ≡ length (fixed_first k fixed rows) = sym (length-take-le first (get_or rows 0 []) (omega arith)) ∙ ap length left in
-        let weigh : take width table ≡ weights N (take above point) =
-        weights_lent (min above row_length) width (take above point) table
-        (length-take above point ∙ ap (min above) h.point_whole) (omega (arith, row_is, min-le_right above row_length)) h.width_is h.weighed in
-        rw (weigh, left, right, leb_not k first, count)
+    round_is gs values =
+        let left : us ≡ fixed_first k fixed rows = rw h.first_is (take_least fixed k (get_or rows 0 [])) in
+        let rest : fixed - first ≡ fixed - k = omega (arith, h.first_is, sub-add-min_cancel fixed k) in
+        let right : vs ≡ fixed_second k fixed rows = rw (h.second_is, rest) (take_least (fixed - k) k (get_or rows 1 [])) in
+        let weigh : take width table ≡ weights N (take row_length point) =
+        weights_lent (min row_length (length point)) width (take row_length point) table
+        (length-take row_length point) (omega (arith, row_is)) h.width_is h.weighed in
+        rw (weigh, left, right, leb_not k (length (fixed_first k fixed rows)))

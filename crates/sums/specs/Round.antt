@@ -19,9 +19,9 @@ abbrev pub fixed_second : ℕ → ℕ → List (List ℕ) → List ℕ
 fixed_second k n rows = take (n - k) (take k (get_or rows 1 []))
 
 module _ (N : Numbers ℕ) where
-  -- the side of the point in a row, its first n coordinates being fixed; of the values those count that fit in a table
-  abbrev pub side_at : ℕ → List ℕ → List ℕ → ℕ → Bool → Side ℕ
-  side_at k values row n next = side_of N k (take table_width values) (take n row) next
+  -- the side of a point with the coordinates xs fixed; of the values those count that fit in a table
+  abbrev pub side_at : ℕ → List ℕ → List ℕ → Bool → Side ℕ
+  side_at k values xs next = side_of N k (take table_width values) xs next
 
   -- the message of the round with n coordinates fixed
   abbrev pub round_message : ℕ → List Gate → List ℕ → List ℕ → List (List ℕ) → ℕ → List ℕ

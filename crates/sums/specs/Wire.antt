@@ -1,12 +1,12 @@
 -- A side of a sum message, and what its tables say of a wire and of a gate.
 -- Assumes nothing.
-use Rattle.std.specs.Prelude.{ℕ, ◌+◌, ◌-◌, ◌/◌, ◌%◌, ◌^◌, ◌≤◌, ◌≡◌, Bool, cond, ◌||◌, List, ltb, get_or}
+use Rattle.std.specs.Prelude.{ℕ, ◌+◌, ◌-◌, ◌/◌, ◌%◌, ◌^◌, ◌≡◌, Bool, cond, ◌||◌, ltb, get_or}
 use Rattle.algebra.specs.Numbers.{Numbers}
-use Rattle.circuit.specs.Limits.{max_exponent}
 use Rattle.circuit.specs.Gate.{operate}
 use Rattle.sumcheck.specs.Gatewise.{Side}
-use Rattle.sums.specs.declared.Cut.{Cut}
-use Rattle.sums.specs.declared.Wire.{Wire}
+use Rattle.sums.specs.declared.wires.Cut.{Cut}
+use Rattle.sums.specs.declared.wires.Side.{Side as Tables}
+use Rattle.sums.specs.declared.wires.Wire.{Wire}
 use Rattle.sums.specs.declared.Counts.{Counts}
 
 -- the cut of a point with n of k coordinates fixed
@@ -15,14 +15,9 @@ pub record CutAt (k n : ℕ) (next : Bool) (c : Cut) : Type 0 where
   pub size : c.size ≡ 2 ^ (k - n)
   pub half : c.half ≡ cond next (2 ^ (k - n) / 2) 0
 
--- what it is to read a wire by
-pub record Fits (c : Cut) : Type 0 where
-  pub free : c.free ≤ max_exponent
-  pub size : c.size ≡ 2 ^ c.free
-  pub half : c.half ≤ c.size
-
-abbrev pub side : List ℕ → List ℕ → Cut → Side ℕ
-side shares table c = record { shares = shares; table = table; size = c.size; half = c.half }
+-- the two tables and how a wire's number is cut
+abbrev pub side : Tables → Side ℕ
+side s = record { shares = s.shares.now; table = s.table.now; size = s.cut.size; half = s.cut.half }
 
 -- `Gatewise`'s share, own, other and is_one of a wire
 pub record Reads (s : Side ℕ) (i : ℕ) (w : Wire) : Type 0 where

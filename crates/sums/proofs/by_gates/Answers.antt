@@ -16,8 +16,8 @@ loop-a-preserved c =
     (step _ _ _ _ _ c.loop-a.invariant (search rules)
     record {
       weighed = c.word.ensures;
-      on_left = c.read_wire-left.ensures;
-      on_right = c.read_wire-right.ensures;
+      on_left = c.wire-l.ensures;
+      on_right = c.wire-r.ensures;
       counts = c.count_gate-counts.ensures;
     })
 

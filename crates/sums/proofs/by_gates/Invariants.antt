@@ -8,7 +8,7 @@ use Rattle.sums.proofs.by_gates.Given as goal
 
 abbrev pub invariant-loop-a : goal.invariant-loop-a
 invariant-loop-a l =
-    Passed (modulus l.f) l.gates l.weights (side l.lshares l.ltable l.lcut) (side l.rshares l.rtable l.rcut)
+    Passed (modulus l.f) l.gates l.weights (side l.left) (side l.right)
     (tallied (modulus l.f) l.zeros) (tallied (modulus l.f) l.ones) (tallied (modulus l.f) l.squares) l.a
 
 abbrev pub decreases-loop-a : goal.decreases-loop-a

@@ -1,22 +1,27 @@
--- `count_gate` meets its contract: it is the definition, operation by operation, by the wires' bits.
-use mathlib.Core.Path.{◌≡◌, ap, ap₂, ◌∙◌}
-use mathlib.Core.Bool.{Bool, true, false, ◌||◌}
+-- `count_gate` meets its contract: a gate's bit is 1 where one of its wires' is.
+use Rattle.std.proofs.Common.{◌≡◌, Bool, ◌||◌, sym, ap, ◌∙◌}
 use Rattle.sums.proofs.Counting.{by_share, counted}
 use Rattle.sums.proofs.count_gate.Goals as goal
-use Rattle.sums.proofs.count_gate.Goals.{then-l-via-then-l, then-l-via-else-l+then-r}
+use Rattle.sums.proofs.count_gate.Goals.{then-l, else-l}
 
-pub returns-then-l : goal.returns-then-l
-returns-then-l c =
-    let args = c.args in
-    let bit : args.l.one || args.r.one ≡ true =
-    elim c.then-l.branch [
-      | then-l-via-then-l w ↦ ap (λ (t : Bool). t || args.r.one) w.if-l.true
-      | then-l-via-else-l+then-r w ↦ ap₂ ◌||◌ w.if-l.false w.if-r.true
+pub returns-then-r : goal.returns-then-r
+returns-then-r c =
+    let l = c.args.l in
+    let r = c.args.r in
+    let either : l.one || r.one ≡ c.if-l.value =
+    elim c.if-l.branch [
+      | then-l w ↦ ap (λ (t : Bool). t || r.one) w.if-l.true ∙ sym w.if-l.true ∙ sym w.value-is
+      | else-l w ↦ ap (λ (t : Bool). t || r.one) w.if-l.false ∙ sym w.value-is
     ] in
-    counted _ _ _ args.l args.r true _ _ _ bit (c.mul-share.ensures ∙ by_share _ _ _ _ c.both_shares.ensures) (cc) (cc)
+    counted _ _ _ l r _ _ _ _ (either ∙ c.if-r.true) (c.mul-share.ensures ∙ by_share _ _ _ _ c.both_shares.ensures) (cc) (cc)
 
-pub returns : goal.returns
-returns c =
-    let args = c.args in
-    counted _ _ _ args.l args.r false _ _ _ (ap₂ ◌||◌ c.if-l.false c.if-r.false)
-    (c.mul-share.ensures ∙ by_share _ _ _ _ c.both_shares.ensures) (cc) (cc)
+pub returns-else-r : goal.returns-else-r
+returns-else-r c =
+    let l = c.args.l in
+    let r = c.args.r in
+    let either : l.one || r.one ≡ c.if-l.value =
+    elim c.if-l.branch [
+      | then-l w ↦ ap (λ (t : Bool). t || r.one) w.if-l.true ∙ sym w.if-l.true ∙ sym w.value-is
+      | else-l w ↦ ap (λ (t : Bool). t || r.one) w.if-l.false ∙ sym w.value-is
+    ] in
+    counted _ _ _ l r _ _ _ _ (either ∙ c.if-r.false) (c.mul-share.ensures ∙ by_share _ _ _ _ c.both_shares.ensures) (cc) (cc)
