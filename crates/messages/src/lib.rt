@@ -19,18 +19,13 @@ fn write_sum(
     ensures { WritesIf false circuit.now layer round past.now values.now buffer.old buffer.new }
 {
     let s = standing::at_round(circuit, layer, round, past);
-    let point = s.point;
-    let u = s.u;
-    let v = s.v;
-    let points = [u, v];
     let f = Field::of(layout::prime(circuit));
     let words = sums::sum_message(
         f,
         layout::gates_above(circuit, layer),
-        point,
-        s.above,
+        &s.point[..s.above],
         values,
-        points,
+        [s.u, s.v],
         s.own,
         round,
     );
