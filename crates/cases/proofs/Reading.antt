@@ -1,12 +1,12 @@
 -- Laws of parts that are cut off where the list ends, and of the checksum of what is left of a list.
 -- Assumes nothing.
-use mathlib.Core.Path.{◌≡◌, refl, sym, ap, ◌∙◌}
+use mathlib.Core.Path.{◌≡◌, sym, ap, ◌∙◌}
 use mathlib.Core.List.{List, []}
-use Prim.Native.Nat.{ℕ, ◌+◌, ◌-◌, ◌*◌, ◌%◌, ◌<◌, min}
+use Prim.Native.Nat.{ℕ, ◌+◌, ◌-◌, ◌*◌, ◌%◌, ◌≤◌, ◌<◌, min}
 use mathlib.Core.Logic.{◌⊎◌, inl, inr}
 use native.Mathlib.Nat.{eq-zero-or-pos}
 use native.Mathlib.Omega.{arith}
-use lib.ListN.{length, get_or, take, drop, length-drop}
+use lib.ListN.{length, get_or, take, drop, length-drop, drop_of_length-le}
 use Rattle.lists.proofs.Parts.{take_most}
 use Rattle.cases.specs.Parts.{between}
 use Rattle.lists.proofs.Steps.{drop_up}
@@ -31,6 +31,7 @@ pub checksum_next : (h : ℕ) (l : List ℕ) (i : ℕ) → i < length l
 unfolding checksum_from
 checksum_next h l i less = rw (drop_up l i 0)
 
-pub checksum_end : (h : ℕ) → checksum_from h [] ≡ h
+-- and past the last there is none
+pub checksum_end : (h : ℕ) (l : List ℕ) (i : ℕ) → length l ≤ i → checksum_from h (drop i l) ≡ h
 unfolding checksum_from
-checksum_end h = refl
+checksum_end h l i past = let none : drop i l ≡ [] = drop_of_length-le l {i = i} past in rw none

@@ -2,8 +2,7 @@
 // and buffers as its lines have them. Nothing is required of a case: what would stand past its end is left out, and the line then differs.
 #![tactic(auto)]
 
-ghost use Rattle.std.specs.Prelude.{◌≡◌, ◌<◌, min, length, take, IfOk};
-ghost use Rattle.lists.specs.Buffer.{over};
+ghost use Rattle.std.specs.Prelude.{◌≡◌, length, IfOk};
 ghost use Rattle.refusal.specs.Number.{number_of};
 ghost use Rattle.io.specs.Counts.{IsPrefixLen};
 ghost use Rattle.cases.specs.Parts.{between, list_at};
@@ -24,59 +23,41 @@ pub fn next<R: Read>(input: &mut R, buffer: &mut [u8]) -> Result<usize>
 {
     let mut size = [0u8; 4];
     printing::read_full(input, &mut size)?;
-    let count = lists::least(xdr::word_at(&size, 0) as usize, buffer.len());
+    let count = buffer.len().min(xdr::word_at(&size, 0) as usize);
     printing::read_full(input, &mut buffer[..count])
 }
 
-// The bytes from one place to another.
-pub fn part(bytes: &[u8], start: usize, end: usize) -> &[u8]
-    ensures { result.now ≡ between start end bytes.now }
+// The items from one place to another.
+#[tactic(auto, using(crate::proofs::Reading::between_clipped))]
+pub fn part<T>(items: &[T], start: usize, end: usize) -> &[T]
+    ensures { result.now ≡ between start end items.now }
 {
-    let to = lists::least(end, bytes.len());
-    let from = lists::least(start, to);
-    &bytes[from..to]
+    let to = end.min(items.len());
+    let from = start.min(to);
+    &items[from..to]
 }
 
 // The list with this index.
+#[tactic(auto, unfolding(crate::specs::Parts::list_at))]
 pub fn list(words: &[u32], index: u32) -> &[u32]
     ensures { result.now ≡ list_at index words.now }
 {
     let place = index as usize;
-    let end = lists::word(words, place + 1) as usize;
     let start = lists::word(words, place) as usize;
-    let to = lists::least(end, words.len());
-    let from = lists::least(start, to);
-    &words[from..to]
-}
-
-// Writes words over the front of a buffer, as many as it holds, and answers how many.
-pub fn copy(words: &[u32], buffer: &mut [u32]) -> usize
-    ensures within { IsPrefixLen result buffer.new }
-    ensures count { result ≡ min (length words.now) (length buffer.old) }
-    ensures words { buffer.new ≡
-        over (take (length buffer.old) words.now) buffer.old }
-{
-    let count = lists::least(words.len(), buffer.len());
-    lists::put(buffer, words);
-    count
+    let end = lists::word(words, place + 1) as usize;
+    part(words, start, end)
 }
 
 // The checksum of words, which a generator of expected answers computes as well.
+#[tactic(auto, using(crate::proofs::Reading::checksum_next, crate::proofs::Reading::checksum_end))]
 fn checksum(words: &[u32]) -> u64
     ensures { result ≡ checksum_of words.now }
 {
     let mut h: u64 = 0;
-    for i in 0..words.len() {
-        h = (h * 31 + long(words[i])) % MODULUS;
+    for &word in words {
+        h = (h * 31 + u64::from(word)) % MODULUS;
     }
     h
-}
-
-// A word as a number to print.
-fn long(word: u32) -> u64
-    ensures { (result ≡ word) × (result < 4294967296) }
-{
-    word as u64
 }
 
 // Prints a label and a number.
@@ -89,12 +70,10 @@ pub fn print_labelled<W: Write>(output: &mut W, label: &[u8], number: u64) -> Re
 pub fn print_numbers<W: Write>(output: &mut W, numbers: &[u32]) -> Result<usize>
     ensures { IfOk result (λ n. n ≡ length numbers.now) }
 {
-    let mut printed = 0;
-    while printed < numbers.len() {
-        print_labelled(output, b" ", long(numbers[printed]))?;
-        printed += 1;
+    for number in numbers {
+        write!(output, " {number}")?;
     }
-    Ok(printed)
+    Ok(numbers.len())
 }
 
 // Prints a refusal, and answers its number.
@@ -102,7 +81,7 @@ pub fn print_refused<W: Write>(output: &mut W, cause: Cause) -> Result<u32>
     ensures { IfOk result (λ n. n ≡ number_of cause) }
 {
     let number = u32::from(cause);
-    print_labelled(output, b"refused ", long(number))?;
+    write!(output, "refused {number}")?;
     Ok(number)
 }
 
@@ -113,14 +92,17 @@ pub fn print_buffer<W: Write>(output: &mut W, buffer: &[u32]) -> Result<u64>
 {
     let sum = checksum(buffer);
     let count = buffer.len();
-    if count <= MOST_PRINTED {
-        output.write_all(b" buffer")?;
-        print_numbers(output, buffer)?;
-        return Ok(sum);
+    match buffer {
+        [first, .., last] if MOST_PRINTED < count => {
+            write!(
+                output,
+                " buffer of {count} from {first} to {last} checksum {sum}"
+            )?;
+        }
+        _ => {
+            output.write_all(b" buffer")?;
+            print_numbers(output, buffer)?;
+        }
     }
-    print_labelled(output, b" buffer of ", count as u64)?;
-    print_labelled(output, b" from ", long(buffer[0]))?;
-    print_labelled(output, b" to ", long(buffer[count - 1]))?;
-    print_labelled(output, b" checksum ", sum)?;
     Ok(sum)
 }
