@@ -16,7 +16,7 @@ pub fn load<W: Write>(output: &mut W, lists: &[u32]) -> Result<()> {
 
 pub fn evaluate<W: Write>(output: &mut W, lists: &[u32]) -> Result<()> {
     let mut buffer = [0u32; MAX_WORDS];
-    let count = cases::copy(cases::list(lists, 2), &mut buffer);
+    let count = lists::put(&mut buffer, cases::list(lists, 2));
     let lent = &mut buffer[..count];
     match evaluation::evaluate(cases::list(lists, 0), cases::list(lists, 1), lent) {
         Ok(value) => {

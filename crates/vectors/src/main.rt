@@ -86,7 +86,7 @@ const NOTE: usize = 12;
 
 fn read<W: Write>(output: &mut W, bytes: &[u8], lists: &[u32]) -> Result<()> {
     let mut buffer = [0u32; MAX_WORDS];
-    let count = cases::copy(cases::list(lists, 1), &mut buffer);
+    let count = lists::put(&mut buffer, cases::list(lists, 1));
     let lent = &mut buffer[..count];
     match xdr::read(bytes, lists::word(cases::list(lists, 0), 0), lent) {
         Ok(counts) => {

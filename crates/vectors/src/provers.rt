@@ -24,7 +24,7 @@ fn print_proved<W: Write>(output: &mut W, proved: Proved) -> Result<()> {
 
 pub fn prove<W: Write>(output: &mut W, lists: &[u32]) -> Result<()> {
     let mut buffer = [0u32; MAX_WORDS];
-    let count = cases::copy(cases::list(lists, 3), &mut buffer);
+    let count = lists::put(&mut buffer, cases::list(lists, 3));
     let lent = &mut buffer[..count];
     let proved = prover::prove(
         cases::list(lists, 0),
@@ -39,7 +39,7 @@ pub fn prove<W: Write>(output: &mut W, lists: &[u32]) -> Result<()> {
 
 pub fn prove_one<W: Write>(output: &mut W, lists: &[u32]) -> Result<()> {
     let mut buffer = [0u32; MAX_WORDS];
-    let count = cases::copy(cases::list(lists, 3), &mut buffer);
+    let count = lists::put(&mut buffer, cases::list(lists, 3));
     let lent = &mut buffer[..count];
     let message = prover::prove_one(
         cases::list(lists, 0),
