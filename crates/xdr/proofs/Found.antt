@@ -21,14 +21,6 @@ use Rattle.xdr.specs.Read.{words, first_word, size, whole, prepend, arrays, call
 use Rattle.xdr.proofs.Words.{length_words}
 
 -- THE FRONT
-pub whole_large : (l : List ℕ) → max_count < first_word l → whole l ≡ false
-unfolding whole
-whole_large l h = ap (λ (b : Bool). b && leb (size (first_word l)) (length l)) (lt-leb _ _ h)
-
-pub whole_short : (l : List ℕ) → length l < size (first_word l) → whole l ≡ false
-unfolding whole
-whole_short l h = ap (λ (b : Bool). leb (first_word l) max_count && b) (lt-leb _ _ h) ∙ and-false (leb (first_word l) max_count)
-
 pub whole_yes : (l : List ℕ) → first_word l ≤ max_count → size (first_word l) ≤ length l → whole l ≡ true
 unfolding whole
 whole_yes l h k =
