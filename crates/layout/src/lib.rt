@@ -2,11 +2,14 @@
 // function is total: of what the list has not it gives 0 or nothing.
 #![tactic(auto)]
 
-ghost use Rattle.std.specs.Prelude.{◌≡◌, ◌^◌, ◌<◌, leb, length, drop};
+ghost use Rattle.std.specs.Prelude.{◌≡◌, ◌/◌, ◌^◌, ◌<◌, leb, length, drop, map};
 ghost use Rattle.circuit.specs.Limits.{header_words};
-ghost use Rattle.circuit.specs.Circuit.{prime_of, depth, exponents, exponent_at, width_of, gates_start, word_count};
+ghost use Rattle.circuit.specs.Circuit.{prime_of, depth, exponents, exponent_at, width_of, gates_of, gates_start, word_count};
 ghost use Rattle.circuit.specs.Sized.{Exponents};
 ghost use Rattle.layout.specs.Gates.{GatesBefore, GatesAbove};
+ghost use Rattle.layout.specs.Gate.{KindOf, gate_of, gate_in};
+
+use refusal::Cause;
 
 pub const MAX_DEPTH: usize = 16;
 
@@ -14,6 +17,49 @@ pub const MAX_EXPONENT: u32 = 8;
 
 // The words before the exponents.
 const HEADER: usize = 2;
+
+// The words of a gate.
+const GATE: usize = 3;
+
+// What a gate does with the values of its wires. Its first word is the kind's number.
+#[derive(Clone, Copy, PartialEq, Eq, Debug)]
+pub enum Kind {
+    Empty = 0,
+    Add = 1,
+    Multiply = 2,
+}
+
+impl TryFrom<u32> for Kind {
+    type Error = Cause;
+
+    ghost try_from_gives = { KindOf };
+
+    fn try_from(number: u32) -> Result<Kind, Cause> {
+        match number {
+            0 => Ok(Kind::Empty),
+            1 => Ok(Kind::Add),
+            2 => Ok(Kind::Multiply),
+            _ => Err(Cause::GateKind),
+        }
+    }
+}
+
+// A gate, as its words say: whatever they are, its kind may be none.
+#[derive(Clone, Copy, PartialEq, Eq, Debug)]
+pub struct Gate {
+    pub kind: u32,
+    pub left: u32,
+    pub right: u32,
+}
+
+impl From<[u32; GATE]> for Gate {
+    ghost from_gives = { λ words gate. gate_of gate ≡ gate_in words };
+
+    fn from(words: [u32; GATE]) -> Gate {
+        let [kind, left, right] = words;
+        Gate { kind, left, right }
+    }
+}
 
 // Whether p and D are there.
 pub fn has_header(circuit: &[u32]) -> bool
@@ -40,8 +86,8 @@ pub fn depth(circuit: &[u32]) -> usize
 pub fn exponents(circuit: &[u32]) -> &[u32]
     ensures { result.now ≡ exponents circuit.now }
 {
-    let start = lists::least(HEADER, circuit.len());
-    let end = lists::least(gates_start(circuit), circuit.len());
+    let start = HEADER.min(circuit.len());
+    let end = gates_start(circuit).min(circuit.len());
     &circuit[start..end]
 }
 
@@ -50,10 +96,7 @@ pub fn exponents(circuit: &[u32]) -> &[u32]
 pub fn exponent(circuit: &[u32], layer: usize) -> u32
     ensures { result ≡ exponent_at circuit.now layer }
 {
-    if layer == 0 {
-        return 0;
-    }
-    if depth(circuit) < layer {
+    if layer == 0 || depth(circuit) < layer {
         return 0;
     }
     lists::word(circuit, HEADER + layer - 1)
@@ -66,7 +109,7 @@ pub fn width(k: u32) -> usize
     if MAX_EXPONENT < k {
         return 0;
     }
-    1usize << k
+    1 << k
 }
 
 // The gates of the layers before one.
@@ -79,9 +122,9 @@ pub fn gates_before(circuit: &[u32], layer: usize) -> usize
     let written = exponents(circuit);
     let mut count = 0;
     let mut own = width(exponent(circuit, 0));
-    for i in 0..lists::least(layer, written.len()) {
+    for &k in &written[..layer.min(written.len())] {
         count += own;
-        own = width(written[i]);
+        own = width(k);
     }
     count
 }
@@ -97,14 +140,14 @@ fn gates_start(circuit: &[u32]) -> usize
 pub fn word_count(circuit: &[u32]) -> usize
     ensures { Exponents circuit.now → result ≡ word_count circuit.now }
 {
-    gates_start(circuit) + 3 * gates_before(circuit, depth(circuit))
+    gates_start(circuit) + GATE * gates_before(circuit, depth(circuit))
 }
 
 // The words of all gates.
 pub fn all_gates(circuit: &[u32]) -> &[u32]
     ensures { result.now ≡ drop (gates_start circuit.now) circuit.now }
 {
-    let start = lists::least(gates_start(circuit), circuit.len());
+    let start = gates_start(circuit).min(circuit.len());
     &circuit[start..]
 }
 
@@ -117,7 +160,14 @@ pub fn gates_above(circuit: &[u32], layer: usize) -> &[u32]
     }
     let above = layer - 1;
     let gates = all_gates(circuit);
-    let start = lists::least(3 * gates_before(circuit, above), gates.len());
-    let end = lists::least(start + 3 * width(exponent(circuit, above)), gates.len());
+    let start = (GATE * gates_before(circuit, above)).min(gates.len());
+    let end = (start + GATE * width(exponent(circuit, above))).min(gates.len());
     &gates[start..end]
+}
+
+// The gates of a list of words: what is left over at its end is none.
+pub fn gates(words: &[u32]) -> &[[u32; GATE]]
+    ensures { map gate_in result.now ≡ gates_of (length words.now / 3) words.now }
+{
+    words.as_chunks().0
 }

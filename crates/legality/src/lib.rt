@@ -1,60 +1,43 @@
 // Legality: which lists are a circuit and its input, and why others are refused.
 #![tactic(auto)]
 
-ghost use Rattle.std.specs.Prelude.{◌≡◌, ◌*◌, ◌≤◌, length};
+ghost use Rattle.std.specs.Prelude.{◌≡◌, map};
 ghost use Rattle.refusal.specs.Number.{cause_of};
-ghost use Rattle.circuit.specs.Gate.{gate};
-ghost use Rattle.circuit.specs.Circuit.{exponents, gates_of, gate_layers, input_count};
+ghost use Rattle.circuit.specs.Circuit.{exponents, gate_layers, input_count};
 ghost use Rattle.circuit.specs.Legal.{all_below, gate_cause, gates_cause, layers_cause, load_answer, lists_cause};
 ghost use Rattle.circuit.specs.Sized.{LegalCircuit, Sized};
+ghost use Rattle.layout.specs.Gate.{gate_of, gate_in};
 
-use layout::{MAX_DEPTH, MAX_EXPONENT};
+use layout::{Gate, Kind, MAX_DEPTH, MAX_EXPONENT};
 use refusal::Cause;
 
 // Whether each word is below p.
 pub fn all_below(words: &[u32], p: u32) -> bool
     ensures { result ≡ all_below p words.now }
 {
-    for i in 0..words.len() {
-        if p <= words[i] {
-            return false;
-        }
-    }
-    true
+    words.iter().all(|&word| word < p)
 }
 
-// One gate above a layer of `next` gates. Each return is one case of `gate_cause`.
-#[tactic(auto, using(circuit::proofs::Legal::gate_kind, circuit::proofs::Legal::gate_right, circuit::proofs::Legal::gate_order, circuit::proofs::Legal::gate_used, circuit::proofs::Legal::gate_wired_empty, circuit::proofs::Legal::gate_empty))]
-fn check_gate(kind: u32, left: u32, right: u32, next: usize) -> Result<(), Cause>
-    ensures { cause_of result ≡ gate_cause next (gate kind left right) }
+// One gate above a layer of `next` gates. A left wire that is not above the right one is inside that layer too, and 0 where the right one is.
+fn check_gate(gate: Gate, next: usize) -> Result<(), Cause>
+    ensures { cause_of result ≡ gate_cause next (gate_of gate) }
 {
-    if 2 < kind {
-        return Err(Cause::GateKind);
-    }
-    if next <= right as usize {
+    let kind = Kind::try_from(gate.kind)?;
+    if next <= gate.right as usize || gate.right < gate.left {
         return Err(Cause::GateWires);
     }
-    // a left wire that is not above the right one is inside the next layer too
-    if right < left {
-        return Err(Cause::GateWires);
-    }
-    if 0 < kind {
-        return Ok(());
-    }
-    if 0 < right {
+    if kind == Kind::Empty && 0 < gate.right {
         return Err(Cause::GateWires);
     }
     Ok(())
 }
 
-// `count` gates above a layer of `next` gates: the first that is bad.
-fn check_gates(gates: &[u32], count: usize, next: usize) -> Result<(), Cause>
-    requires { 3 * count ≤ length gates.now }
-    ensures { cause_of result ≡ gates_cause next (gates_of count gates.now) }
+// The gates of a layer above one of `next` gates: the first that is bad.
+fn check_gates(gates: &[[u32; 3]], next: usize) -> Result<(), Cause>
+    ensures { cause_of result ≡ gates_cause next (map gate_in gates.now) }
 {
-    for i in 0..count {
-        let g = 3 * i;
-        check_gate(gates[g], gates[g + 1], gates[g + 2], next)?;
+    for &words in gates {
+        check_gate(Gate::from(words), next)?;
     }
     Ok(())
 }
@@ -64,14 +47,13 @@ fn check_layers(circuit: &[u32]) -> Result<(), Cause>
     requires { Sized circuit.now }
     ensures { cause_of result ≡ layers_cause (exponents circuit.now) (gate_layers circuit.now) }
 {
-    let exponents = layout::exponents(circuit);
-    let gates = layout::all_gates(circuit);
-    let mut from = 0;
+    let mut gates = layout::gates(layout::all_gates(circuit));
     let mut count = layout::width(layout::exponent(circuit, 0));
-    for layer in 0..exponents.len() {
-        let next = layout::width(exponents[layer]);
-        check_gates(&gates[3 * from..], count, next)?;
-        from += count;
+    for &k in layout::exponents(circuit) {
+        let next = layout::width(k);
+        let (layer, rest) = gates.split_at(count);
+        check_gates(layer, next)?;
+        gates = rest;
         count = next;
     }
     Ok(())
@@ -88,17 +70,11 @@ pub fn load(circuit: &[u32]) -> Result<(), Cause>
         return Err(Cause::PrimeUnlisted);
     }
     let depth = layout::depth(circuit);
-    if depth < 1 {
-        return Err(Cause::DepthRange);
-    }
-    if MAX_DEPTH < depth {
+    if depth < 1 || MAX_DEPTH < depth {
         return Err(Cause::DepthRange);
     }
     let exponents = layout::exponents(circuit);
-    if exponents.len() != depth {
-        return Err(Cause::ExponentRange);
-    }
-    if !all_below(exponents, MAX_EXPONENT + 1) {
+    if exponents.len() != depth || !all_below(exponents, MAX_EXPONENT + 1) {
         return Err(Cause::ExponentRange);
     }
     if circuit.len() != layout::word_count(circuit) {

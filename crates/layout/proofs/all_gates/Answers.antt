@@ -8,4 +8,4 @@ use Rattle.layout.proofs.all_gates.Goals as goal
 pub returns : goal.returns
 returns c =
     let l = c.args.circuit.now in
-    gates_rest l _ (c.least-start.ensures ∙ ap (λ (n : ℕ). min n (length l)) c.gates_start.ensures.0)
+    gates_rest l _ (c.min-start.ensures ∙ ap (λ (n : ℕ). min n (length l)) c.gates_start.ensures.0)

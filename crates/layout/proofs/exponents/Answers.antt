@@ -8,5 +8,5 @@ use Rattle.layout.proofs.exponents.Goals as goal
 pub returns : goal.returns
 returns c =
     let l = c.args.circuit.now in
-    exponents_part l _ _ c.least-start.ensures
-    (c.least-end.ensures ∙ ap (λ (n : ℕ). min n (length l)) c.gates_start.ensures.0)
+    exponents_part l _ _ c.min-start.ensures
+    (c.min-end.ensures ∙ ap (λ (n : ℕ). min n (length l)) c.gates_start.ensures.0)

@@ -22,7 +22,7 @@ pub overflow_add-start : goal.overflow_add-start
 overflow_add-start c =
     let w = width_small c.exponent.result in
     let s : c.width.result ≤ max_width = omega (arith, c.width.ensures) in
-    omega (arith, c.least-start.ensures, c.gates_before.ensures.few)
+    omega (arith, c.min-start.ensures, c.gates_before.ensures.few)
 
 pub returns : goal.returns
 returns c h some last =
@@ -31,4 +31,4 @@ returns c h some last =
     let there : LayerOf l above = record { headed = h.headed; inside = omega arith } in
     layer_read l above _ _ _ h (omega arith) (c.gates_before.ensures.counted there)
     (c.width.ensures ∙ ap width_of c.exponent.ensures ∙ exponent_width l above there)
-    (gates_part l _ _ _ _ _ c.all_gates-gates.ensures c.least-start.ensures c.least-end.ensures)
+    (gates_part l _ _ _ _ _ c.all_gates-gates.ensures c.min-start.ensures c.min-end.ensures)

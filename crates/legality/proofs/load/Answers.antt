@@ -13,6 +13,8 @@ use Rattle.circuit.specs.Legal.{all_below}
 use Rattle.circuit.specs.Sized.{Exponents}
 use Rattle.circuit.proofs.Loading.{Ranged, load_short, load_prime, load_flat, load_deep, load_ends, load_wide, load_count, load_gates}
 use Rattle.legality.proofs.load.Goals as goal
+use Rattle.legality.proofs.load.Goals.{then-depth-lt1-via-then-depth-lt1, then-depth-lt1-via-else-depth-lt1+then-depth-gt-MAX_DEPTH}
+use Rattle.legality.proofs.load.Goals.{then-exponents-depth-via-then-exponents-depth, then-exponents-depth-via-else-exponents-depth+then-not-all_below}
 
 -- behind 3: the list has its header, its prime is listed, and its depth is in range
 ranged : (l : List ℕ) (d : ℕ) → leb header_words (length l) ≡ true → is_listed (prime_of l) ≡ true → d ≡ depth l → 1 ≤ d → d ≤ max_depth → Ranged l
@@ -35,26 +37,24 @@ returns-then-not-is_listed c =
 
 pub returns-then-depth-lt1 : goal.returns-then-depth-lt1
 returns-then-depth-lt1 c =
-    sym (load_flat c.args.circuit.now (sym c.has_header.ensures ∙ c.if-not-has_header.false) (sym (ap is_listed c.prime.ensures) ∙ sym c.is_listed.ensures ∙ c.if-not-is_listed.false)
-    (omega (arith, c.if-depth-lt1.true, c.depth-depth.ensures.0)))
-
-pub returns-then-depth-gt-MAX_DEPTH : goal.returns-then-depth-gt-MAX_DEPTH
-returns-then-depth-gt-MAX_DEPTH c =
-    sym (load_deep c.args.circuit.now (sym c.has_header.ensures ∙ c.if-not-has_header.false) (sym (ap is_listed c.prime.ensures) ∙ sym c.is_listed.ensures ∙ c.if-not-is_listed.false)
-    (omega (arith, c.if-depth-gt-MAX_DEPTH.true, c.depth-depth.ensures.0)))
+    let two = sym c.has_header.ensures ∙ c.if-not-has_header.false in
+    let listed = sym (ap is_listed c.prime.ensures) ∙ sym c.is_listed.ensures ∙ c.if-not-is_listed.false in
+    elim c.then-depth-lt1.branch [
+      | then-depth-lt1-via-then-depth-lt1 w ↦ sym (load_flat c.args.circuit.now two listed (omega (arith, w.if-depth-lt1.true, c.depth-depth.ensures.0)))
+      | then-depth-lt1-via-else-depth-lt1+then-depth-gt-MAX_DEPTH w ↦
+          sym (load_deep c.args.circuit.now two listed (omega (arith, w.if-depth-gt-MAX_DEPTH.true, c.depth-depth.ensures.0)))
+    ]
 
 pub returns-then-exponents-depth : goal.returns-then-exponents-depth
 returns-then-exponents-depth c =
     let l = c.args.circuit.now in
     let r = ranged l _ (sym c.has_header.ensures ∙ c.if-not-has_header.false) (sym (ap is_listed c.prime.ensures) ∙ sym c.is_listed.ensures ∙ c.if-not-is_listed.false) c.depth-depth.ensures.0 c.if-depth-lt1.false c.if-depth-gt-MAX_DEPTH.false in
-    sym (load_ends l r (λ e. c.if-exponents-depth.true (ap length c.exponents-exponents.ensures ∙ e ∙ sym c.depth-depth.ensures.0)))
-
-pub returns-then-not-all_below : goal.returns-then-not-all_below
-returns-then-not-all_below c =
-    let l = c.args.circuit.now in
-    let r = ranged l _ (sym c.has_header.ensures ∙ c.if-not-has_header.false) (sym (ap is_listed c.prime.ensures) ∙ sym c.is_listed.ensures ∙ c.if-not-is_listed.false) c.depth-depth.ensures.0 c.if-depth-lt1.false c.if-depth-gt-MAX_DEPTH.false in
-    sym (load_wide l r
-    (sym (ap (all_below (max_exponent + 1)) c.exponents-exponents.ensures) ∙ sym c.all_below.ensures ∙ c.if-not-all_below.true))
+    elim c.then-exponents-depth.branch [
+      | then-exponents-depth-via-then-exponents-depth w ↦
+          sym (load_ends l r (λ e. w.if-exponents-depth.true (ap length c.exponents-exponents.ensures ∙ e ∙ sym c.depth-depth.ensures.0)))
+      | then-exponents-depth-via-else-exponents-depth+then-not-all_below w ↦
+          sym (load_wide l r (sym (ap (all_below (max_exponent + 1)) c.exponents-exponents.ensures) ∙ sym w.all_below.ensures ∙ w.if-not-all_below.true))
+    ]
 
 pub returns-then-circuit-word_count : goal.returns-then-circuit-word_count
 returns-then-circuit-word_count c =
