@@ -1,11 +1,11 @@
 -- Evaluation from the input up: from its place on the working array holds all values, and one layer more is filled before them.
 -- Assumes nothing.
-use Prim.Native.Nat.{ℕ, suc, ◌+◌, ◌-◌, ◌*◌, ◌^◌, ◌≤◌, ◌<◌}
+use Prim.Native.Nat.{ℕ, suc, ◌+◌, ◌-◌, ◌/◌, ◌^◌, ◌≤◌, ◌<◌}
 use mathlib.Core.Path.{◌≡◌, sym, ap, ap₂, ◌∙◌, subst}
 use mathlib.Core.List.{List, ◌++◌, map, flatten}
 use native.Mathlib.Nat.{le_refl, sub-zero}
 use native.Mathlib.Omega.{arith}
-use lib.ListN.{length, take, drop, get_or, length-append, length-drop, take-append-drop}
+use lib.ListN.{length, take, drop, get_or, length-append, length-drop, length-map, take-append-drop}
 use lib.Seq.{length-take-le, drop_at, drop-drop, get_or-take, take_all, take-append-add}
 use Rattle.lists.specs.Each.{All}
 use Rattle.lists.specs.Buffer.{over}
@@ -15,16 +15,20 @@ use Rattle.lists.proofs.Buffer.{length_over, rest_lent, rest_back}
 use Rattle.lists.proofs.Front.{front_over, front_take}
 use Rattle.algebra.specs.Numbers.{Numbers, words}
 use Rattle.circuit.specs.Limits.{max_values}
-use Rattle.circuit.specs.Gate.{Gate, gate_value}
-use Rattle.circuit.specs.Circuit.{output_exponent, prime_of, depth, exponent_at, gates_of, gates_start, gates_before, gates_at, value_count}
+use Rattle.circuit.specs.Gate.{gate_value}
+use Rattle.circuit.specs.Circuit.{output_exponent, prime_of, depth, exponent_at, gates_start, gates_before, gates_at, value_count}
 use Rattle.circuit.specs.Legal.{lists_cause}
 use Rattle.circuit.specs.Sized.{LegalCircuit}
 use Rattle.circuit.specs.Values.{layers, values_at, value}
-use Rattle.circuit.proofs.Gates.{before_next, count_none, gates_from, rest_start, rest_words, rest_gates}
+use Rattle.circuit.proofs.Legal.{length_gates}
+use Rattle.circuit.proofs.Gates.{before_next, count_none, layer_count}
 use Rattle.circuit.proofs.Loading.{legal_lists}
 use Rattle.circuit.proofs.Layers.{layer_by_layer, last_layer, legal_wires}
 use Rattle.circuit.proofs.Values.{values_split, layer_part, layer_room, all_size}
 use Rattle.circuit.proofs.Largest.{in_limits}
+use Rattle.layout.specs.Gate.{gate_in}
+use Rattle.layout.proofs.Triples.{all_of, layer_fits, layer_cut}
+use Rattle.std.proofs.lemmas.List.{take-map, drop-map}
 use Rattle.evaluation.specs.Layer.{layer_values, AllValues, Fillable, Placed}
 use Rattle.evaluation.proofs.Filling.{values_agree, length_layer}
 
@@ -118,18 +122,28 @@ module _ (c input : List ℕ) (e : lists_cause c input ≡ 0) where
     pub turn_sizes : (count ≤ from) × (from ≤ max_values)
     turn_sizes = (omega (arith, next), omega (arith, room, (in_limits c legal).values))
 
-    -- its gates, and what their wires name
-    pub turn_room : (gates : List ℕ) → gates ≡ drop (gates_start c) c → 3 * at ≤ length gates
-    turn_room = rest_start c legal.sized j at count inside here wide
+    -- its gates, among the triples of all gates, and what their wires name
+    module _ (rows : List (List ℕ)) (er : map gate_in rows ≡ all_of c) where
+      pub turn_room : from ≤ length rows
+      turn_room =
+          let size = ap length er in
+          let gates = length_gates (length (drop (gates_start c) c) / 3) (drop (gates_start c) c) in
+          omega (arith, next, layer_fits c legal.sized j at count inside here wide, length-map rows gate_in)
 
-    gates_are : gates_of count (gates_from c at) ≡ gates_at c j
-    gates_are = rest_gates c legal.sized j at count inside here wide
+      pub turn_gates : map gate_in (take (from - at) (drop at rows)) ≡ gates_at c j
+      turn_gates =
+          let n : from - at ≡ count = omega (arith, next) in
+          ap (λ (m : ℕ). map gate_in (take m (drop at rows))) n ∙ sym (take-map gate_in count (drop at rows)) ∙ ap (take count) (sym (drop-map gate_in at rows) ∙ ap (drop at) er)
+          ∙ layer_cut c legal.sized j at count inside here wide
+
+    size_is : length (gates_at c j) ≡ count
+    size_is = layer_count c legal.sized.headed j inside ∙ sym wide
 
     wires : All (λ g. (g.left < 2 ^ exponent_at c (suc j)) × (g.right < 2 ^ exponent_at c (suc j))) (gates_at c j)
     wires = legal_wires c legal j inside
 
     -- what the filling asks, with the values as they are lent
-    pub turn_fillable : Fillable (gates_from c at) count (take (max_values - at) (drop at values))
+    pub turn_fillable : Fillable (gates_at c j) (take (max_values - at) (drop at values))
     turn_fillable =
         let most = (in_limits c legal).values in
         let ends = room in
@@ -137,10 +151,9 @@ module _ (c input : List ℕ) (e : lists_cause c input ≡ 0) where
         let size : length (take (max_values - at) (drop at values)) ≡ max_values - at =
         ap length (rest_lent values at max_values F.size) ∙ length-drop at values ∙ ap (λ (n : ℕ). n - at) F.size in
         record {
-          words = rest_words c legal.sized j at count inside here wide;
-          room = omega arith;
+          room = omega (arith, size_is);
           wired =
-              rw (gates_are, size)
+              rw (size_is, size)
               (all_weaken (gates_at c j) (λ g w. (let l = w.0 in omega arith, let r = w.1 in omega arith)) wires);
         }
 
@@ -153,7 +166,7 @@ module _ (c input : List ℕ) (e : lists_cause c input ≡ 0) where
         ∙ ap (λ (t : List ℕ). get_or t i 0) (ap (λ (m : ℕ). take w (drop m all)) F.place ∙ layer_part c input e (suc j) inside)
 
     abbrev layer : List ℕ
-    layer = layer_values N count (gates_from c at) (drop at values)
+    layer = layer_values N (gates_at c j) (drop at values)
 
     behind : (l : List ℕ) → drop count (drop at l) ≡ drop from l
     behind l = let n : at + count ≡ from = omega (arith, next) in drop-drop count at l ∙ ap (λ (m : ℕ). drop m l) n
@@ -161,7 +174,8 @@ module _ (c input : List ℕ) (e : lists_cause c input ≡ 0) where
     layer_is : layer ≡ values_at c input j
     unfolding layer_values
     layer_is =
-        ap₂ (λ (v : List ℕ) (gs : List Gate). map (gate_value N v) gs) (behind values) gates_are
+        ap (λ (n : ℕ). map (gate_value N (drop n (drop at values))) (gates_at c j)) size_is
+        ∙ ap (λ (v : List ℕ). map (gate_value N v) (gates_at c j)) (behind values)
         ∙ values_agree (prime_of c) (2 ^ exponent_at c (suc j)) (gates_at c j) (drop from values) (values_at c input (suc j)) wires seen
         ∙ sym (layer_by_layer c input e j inside)
 
@@ -174,14 +188,14 @@ module _ (c input : List ℕ) (e : lists_cause c input ≡ 0) where
 
     -- the array with the layer, as the borrow checker gives it
     pub turn_filled : (rest : List ℕ)
-        → rest ≡ over (layer_values N count (gates_from c at) (take (max_values - at) (drop at values))) (take (max_values - at) (drop at values))
+        → rest ≡ over (layer_values N (gates_at c j) (take (max_values - at) (drop at values))) (take (max_values - at) (drop at values))
         → Filled c input (take at values ++ (rest ++ drop (max_values - at) (drop at values))) j at
     turn_filled rest er =
-        let n : length layer ≡ count = length_layer N count (gates_from c at) (drop at values) in
+        let n : length layer ≡ count = length_layer N (gates_at c j) (drop at values) ∙ size_is in
         let starts = next in
         let fits : at + length layer ≤ max_values = let most = turn_sizes in omega arith in
         let now : rest ≡ over layer (take (max_values - at) (drop at values)) =
-        er ∙ ap (λ (v : List ℕ). over (layer_values N count (gates_from c at) v) (take (max_values - at) (drop at values)))
+        er ∙ ap (λ (v : List ℕ). over (layer_values N (gates_at c j) v) (take (max_values - at) (drop at values)))
         (rest_lent values at max_values F.size) in
         let whole = put values rest layer at F.size fits now in
         let long : value_count c - at ≡ length layer + (value_count c - from) = let ends = room in omega arith in

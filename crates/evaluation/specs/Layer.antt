@@ -1,24 +1,22 @@
 -- One layer of an evaluation, as the code fills it: a layer's values go directly before those of the layer after it.
 -- Assumes nothing.
-use Rattle.std.specs.Prelude.{ℕ, ◌+◌, ◌-◌, ◌*◌, ◌≤◌, ◌<◌, ◌≡◌, length, drop}
+use Rattle.std.specs.Prelude.{ℕ, ◌+◌, ◌-◌, ◌≤◌, ◌<◌, ◌≡◌, length, drop}
 use mathlib.Core.List.{List, map, flatten}
 use Rattle.lists.specs.Each.{All}
 use Rattle.lists.specs.Front.{Front}
 use Rattle.algebra.specs.Numbers.{Numbers}
 use Rattle.circuit.specs.Limits.{max_values}
-use Rattle.circuit.specs.Gate.{gate_value}
-use Rattle.circuit.specs.Circuit.{gates_of}
+use Rattle.circuit.specs.Gate.{Gate, gate_value}
 use Rattle.circuit.specs.Values.{layers}
 
--- the values of the first `count` gates of a list of words, where the next layer's stand behind `count` places
-unfoldable pub layer_values : Numbers ℕ → ℕ → List ℕ → List ℕ → List ℕ
-layer_values N count gates values = map (gate_value N (drop count values)) (gates_of count gates)
+-- the values of a layer's gates, where the next layer's stand behind as many places
+unfoldable pub layer_values : Numbers ℕ → List Gate → List ℕ → List ℕ
+layer_values N gates values = map (gate_value N (drop (length gates) values)) gates
 
--- the words are there, and each gate's wires lead to values behind those of its own layer
-pub record Fillable (gates : List ℕ) (count : ℕ) (values : List ℕ) : Type 0 where
-  pub words : 3 * count ≤ length gates
-  pub room : count ≤ length values
-  pub wired : All (λ g. (count + g.left < length values) × (count + g.right < length values)) (gates_of count gates)
+-- there is room for them, and each gate's wires lead to values behind those of its own layer
+pub record Fillable (gates : List Gate) (values : List ℕ) : Type 0 where
+  pub room : length gates ≤ length values
+  pub wired : All (λ g. (length gates + g.left < length values) × (length gates + g.right < length values)) gates
 
 -- a working array with a list at its place: from there on it stands at the front
 abbrev pub Placed : List ℕ → ℕ → List ℕ → Type 0

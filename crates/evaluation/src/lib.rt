@@ -1,17 +1,19 @@
 // Evaluation: the values of a circuit's gates.
 #![tactic(auto)]
 
-ghost use Rattle.std.specs.Prelude.{◌≡◌, ◌+◌, ◌≤◌, length};
+ghost use Rattle.std.specs.Prelude.{◌≡◌, ◌+◌, ◌≤◌, length, map};
 ghost use Rattle.lists.specs.Buffer.{over};
 ghost use Rattle.field.specs.Modulus.{numbers};
 ghost use Rattle.circuit.specs.Limits.{max_values};
 ghost use Rattle.circuit.specs.Gate.{operate};
 ghost use Rattle.circuit.specs.Circuit.{depth, gates_before};
 ghost use Rattle.circuit.specs.Legal.{lists_cause};
+ghost use Rattle.layout.specs.Gate.{gate_in};
 ghost use Rattle.evaluation.specs.Layer.{layer_values, AllValues, Fillable, Placed};
 ghost use Rattle.evaluation.specs.Evaluate.{Evaluates};
 
 use field::Field;
+use layout::{Gate, Kind};
 use refusal::Cause;
 
 // The gate and input words of the largest circuit.
@@ -21,23 +23,23 @@ pub const MAX_VALUES: usize = 1 + layout::MAX_DEPTH * (1 << layout::MAX_EXPONENT
 pub fn gate_value(f: Field, kind: u32, x: u32, y: u32) -> u32
     ensures { result ≡ operate (numbers f) kind x y }
 {
-    match kind {
-        1 => f.add(x, y),
-        2 => f.mul(x, y),
-        _ => 0,
+    match Kind::try_from(kind) {
+        Ok(Kind::Add) => f.add(x, y),
+        Ok(Kind::Multiply) => f.mul(x, y),
+        _ => Field::ZERO,
     }
 }
 
-// Writes the values of `count` gates over the front of `values`, behind which stand the next layer's.
-fn fill_layer(f: Field, gates: &[u32], count: usize, values: &mut [u32])
-    requires { Fillable gates.now count values.old }
-    ensures { values.new ≡ over (layer_values (numbers f) count gates.now values.old) values.old }
+// Writes the values of a layer's gates over the front of `values`, behind which stand the next layer's.
+fn fill_layer(f: Field, gates: &[[u32; 3]], values: &mut [u32])
+    requires { Fillable (map gate_in gates.now) values.old }
+    ensures { values.new ≡ over (layer_values (numbers f) (map gate_in gates.now) values.old) values.old }
 {
-    for i in 0..count {
-        let g = 3 * i;
-        let x = values[count + gates[g + 1] as usize];
-        let y = values[count + gates[g + 2] as usize];
-        values[i] = gate_value(f, gates[g], x, y);
+    for (i, &words) in gates.iter().enumerate() {
+        let gate = Gate::from(words);
+        let x = values[gates.len() + gate.left as usize];
+        let y = values[gates.len() + gate.right as usize];
+        values[i] = gate_value(f, gate.kind, x, y);
     }
 }
 
@@ -57,14 +59,13 @@ fn all_values(circuit: &[u32], input: &[u32], place: usize) -> [u32; MAX_VALUES]
     ensures { AllValues circuit.now input.now result }
 {
     let f = Field::of(layout::prime(circuit));
-    let depth = layout::depth(circuit);
-    let gates = layout::all_gates(circuit);
+    let gates = layout::gates(layout::all_gates(circuit));
     let mut at = place;
     let mut values = place_input(input, at);
-    for i in 0..depth {
-        let count = layout::width(layout::exponent(circuit, depth - 1 - i));
-        at -= count;
-        fill_layer(f, &gates[3 * at..], count, &mut values[at..]);
+    for layer in (0..layout::depth(circuit)).rev() {
+        let end = at;
+        at -= layout::width(layout::exponent(circuit, layer));
+        fill_layer(f, &gates[at..end], &mut values[at..]);
     }
     values
 }

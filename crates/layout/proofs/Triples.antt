@@ -1,17 +1,19 @@
 -- Gates as triples of words: the triples of a list of words are its gates, and a part of the triples is the gates of a part of the words.
 -- Assumes nothing.
-use Prim.Native.Nat.{ℕ, zero, suc, ◌+◌, ◌*◌, ◌≤◌, ◌<◌}
+use Prim.Native.Nat.{ℕ, zero, suc, ◌+◌, ◌*◌, ◌/◌, ◌^◌, ◌≤◌, ◌<◌}
 use mathlib.Core.Path.{◌≡◌, refl, sym, ap, ap₂, ◌∙◌}
 use mathlib.Core.List.{List, [], ◌∷◌, map}
 use native.Mathlib.Nat.{le_of_suc-le-suc}
 use native.Mathlib.Numerals.{add-one}
 use native.Mathlib.Omega.{arith}
-use lib.ListN.{length, length-map, take, drop, get_or}
+use lib.ListN.{length, length-map, length-drop, take, drop, get_or}
 use lib.Seq.{drop-cons, drop-drop}
 use Rattle.std.specs.Simd.{first_chunks}
 use Rattle.lists.proofs.Map.{get_d_map_lt}
 use Rattle.circuit.specs.Gate.{Gate, gate}
-use Rattle.circuit.specs.Circuit.{gates_of}
+use Rattle.circuit.specs.Circuit.{depth, exponent_at, gates_of, gates_start, gates_before, gates_at}
+use Rattle.circuit.specs.Sized.{Sized}
+use Rattle.circuit.proofs.Gates.{rest_start, rest_words, rest_gates}
 use Rattle.layout.specs.Gate.{gate_in}
 
 -- three words say what the list that they begin says
@@ -44,3 +46,20 @@ gates_on rows i h =
     let there : i < length (map gate_in rows) = omega (arith, length-map rows gate_in) in
     drop-cons (map gate_in rows) i none there
     ∙ ap₂ (λ (g : Gate) (m : ℕ). g ∷ drop m (map gate_in rows)) (get_d_map_lt gate_in rows i none [] h) (sym (add-one i))
+
+-- all gates of a circuit's words, and a layer's among them
+abbrev pub all_of : List ℕ → List Gate
+all_of c = gates_of (length (drop (gates_start c) c) / 3) (drop (gates_start c) c)
+
+module _ (c : List ℕ) (h : Sized c) (layer from count : ℕ) (more : layer < depth c) (ef : from ≡ gates_before c layer) (ec : count ≡ 2 ^ exponent_at c layer) where
+  pub layer_fits : from + count ≤ length (drop (gates_start c) c) / 3
+  layer_fits =
+      let size = length-drop (3 * from) (drop (gates_start c) c) in
+      let start = rest_start c h layer from count more ef ec (drop (gates_start c) c) refl in
+      let words = rest_words c h layer from count more ef ec in
+      omega arith
+
+  pub layer_cut : take count (drop from (all_of c)) ≡ gates_at c layer
+  layer_cut =
+      gates_cut (length (drop (gates_start c) c) / 3) from count (drop (gates_start c) c) layer_fits
+      ∙ rest_gates c h layer from count more ef ec

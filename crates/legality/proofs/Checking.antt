@@ -1,6 +1,6 @@
 -- Legality in loops over gates and over layers: what is left from a gate on, and from a layer on, decides as all of them do.
 -- Assumes nothing.
-use Prim.Native.Nat.{ℕ, ◌+◌, ◌*◌, ◌/◌, ◌^◌, ◌≤◌, ◌<◌}
+use Prim.Native.Nat.{ℕ, ◌+◌, ◌/◌, ◌^◌, ◌≤◌, ◌<◌}
 use mathlib.Core.Path.{◌≡◌, refl, sym, ap, ap₂, ◌∙◌}
 use mathlib.Core.List.{List, [], map}
 use native.Mathlib.Numerals.{add-one}
@@ -13,14 +13,14 @@ use Rattle.refusal.specs.Order.{first}
 use Rattle.refusal.specs.declared.Cause.{Cause}
 use Rattle.refusal.proofs.Order.{refused_first, legal_first}
 use Rattle.circuit.specs.Gate.{Gate}
-use Rattle.circuit.specs.Circuit.{depth, exponents, exponent_at, output_exponent, width_of, gates_of, gates_start, gates_before, gates_at, gate_layers}
+use Rattle.circuit.specs.Circuit.{depth, exponents, exponent_at, output_exponent, width_of, gates_start, gates_before, gates_at, gate_layers}
 use Rattle.circuit.specs.Legal.{gate_cause, gates_cause, layers_cause}
 use Rattle.circuit.specs.Sized.{Sized}
 use Rattle.circuit.proofs.Legal.{length_gates}
 use Rattle.circuit.proofs.Sized.{one_output, width_of_lem}
-use Rattle.circuit.proofs.Gates.{count_none, before_next, rest_start, rest_words, rest_gates, layers_at, layers_end}
+use Rattle.circuit.proofs.Gates.{count_none, before_next, layers_at, layers_end}
 use Rattle.layout.specs.Gate.{gate_in}
-use Rattle.layout.proofs.Triples.{gates_cut, gates_on}
+use Rattle.layout.proofs.Triples.{gates_on, all_of, layer_fits, layer_cut}
 
 -- GATES, from triple i on
 module _ (next : ℕ) (rows : List (List ℕ)) (i : ℕ) where
@@ -34,10 +34,6 @@ module _ (next : ℕ) (rows : List (List ℕ)) (i : ℕ) where
   gates_done h = rw (drop_of_length-le (map gate_in rows) {i = i} (omega (arith, length-map rows gate_in)))
 
 -- LAYERS
--- all gates of a circuit's words
-abbrev all_of : List ℕ → List Gate
-all_of c = gates_of (length (drop (gates_start c) c) / 3) (drop (gates_start c) c)
-
 -- before a layer, or behind the last: its width, the gates from its first on, and what is left decides
 pub record BeforeLayer (c : List ℕ) (layer count : ℕ) (rows : List (List ℕ)) : Type 0 where
   pub inside : layer ≤ depth c
@@ -62,25 +58,17 @@ module _ (c : List ℕ) (h : Sized c) where
     abbrev from : ℕ
     from = gates_before c layer
 
-    fits : from + count ≤ length (drop (gates_start c) c) / 3
-    fits =
-        let size = length-drop (3 * from) (drop (gates_start c) c) in
-        let start = rest_start c h layer from count more refl b.wide (drop (gates_start c) c) refl in
-        let words = rest_words c h layer from count more refl b.wide in
-        omega arith
-
     pub layer_there : count ≤ length rows
     layer_there =
         let size = ap length b.rest in
         let rest = length-drop from (all_of c) in
         let all = length_gates (length (drop (gates_start c) c) / 3) (drop (gates_start c) c) in
-        omega (arith, fits, length-map rows gate_in)
+        omega (arith, layer_fits c h layer from count more refl b.wide, length-map rows gate_in)
 
     gates_are : map gate_in (take count rows) ≡ gates_at c layer
     gates_are =
         sym (take-map gate_in count rows) ∙ ap (take count) b.rest
-        ∙ gates_cut (length (drop (gates_start c) c) / 3) from count (drop (gates_start c) c) fits
-        ∙ rest_gates c h layer from count more refl b.wide
+        ∙ layer_cut c h layer from count more refl b.wide
 
     -- what its check says, and what is left behind it
     module _ (next : ℕ) (e : next ≡ 2 ^ exponent_at c (layer + 1)) where

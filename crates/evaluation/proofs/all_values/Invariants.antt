@@ -1,10 +1,6 @@
--- `all_values` meets its contract: before turn i the array holds all values from layer D - i on.
-use Prim.Native.Nat.{◌-◌, ◌≤◌}
+-- `all_values` meets its contract: before the turn of a layer the array holds all values from the layer behind it on.
 use Rattle.evaluation.proofs.Evaluating.{Filled}
 use Rattle.evaluation.proofs.all_values.Given as goal
 
-abbrev pub invariant-loop-i : goal.invariant-loop-i
-invariant-loop-i l = (l.i ≤ l.depth) × Filled l.circuit l.input l.values (l.depth - l.i) l.at
-
-abbrev pub decreases-loop-i : goal.decreases-loop-i
-decreases-loop-i l = l.depth - l.i
+abbrev pub invariant-loop-layer : goal.invariant-loop-layer
+invariant-loop-layer l = Filled l.circuit l.input l.values l.layer l.at
