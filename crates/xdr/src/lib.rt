@@ -44,6 +44,7 @@ pub fn put_words(bytes: &[u8], buffer: &mut [u32]) -> usize
 {
     let (all, _) = bytes.as_chunks::<4>();
     let count = all.len().min(buffer.len());
+    // By their places: behind a `zip` with `iter_mut` nothing is known of a buffer's words.
     for (i, word) in all[..count].iter().enumerate() {
         buffer[i] = u32::from_be_bytes(*word);
     }
