@@ -1,4 +1,5 @@
 pub mod Rows
 pub mod Line
 pub mod Wires
+pub mod Passes
 pub mod Sums

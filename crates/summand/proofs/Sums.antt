@@ -4,7 +4,7 @@ use mathlib.Core.Path.{◌≡◌, refl, sym, ap, ap₂, ◌∙◌}
 use mathlib.Core.Logic.{◌≢◌}
 use mathlib.Core.Bool.{Bool, true, false, cond}
 use mathlib.Core.List.{List}
-use Prim.Native.Nat.{ℕ, zero, suc, ◌+◌, ◌-◌, ◌*◌, ◌/◌, ◌%◌, ◌≤◌, ◌<◌}
+use Prim.Native.Nat.{ℕ, suc, ◌+◌, ◌-◌, ◌*◌, ◌%◌, ◌≤◌, ◌<◌}
 use native.Mathlib.Nat.{zero-add, zero-mul, zero-mod, mod-eq_of_lt}
 use native.Mathlib.Numerals.{add-one}
 use native.Mathlib.Omega.{arith}
@@ -17,104 +17,85 @@ use Rattle.algebra.specs.Numbers.{Numbers, words}
 use Rattle.multilinear.specs.Extension.{sum_from}
 use Rattle.multilinear.proofs.Words.{sum_from_below}
 use Rattle.circuit.specs.Gate.{Gate, kinds, max_kind, operate}
-use Rattle.circuit.specs.Circuit.{gates_of}
 use Rattle.circuit.proofs.Operate.{kind_at}
 use Rattle.sumcheck.specs.Summand.{gate_weight, wiring, combined}
-use Rattle.summand.specs.Gates.{gates_in, place_of, wirings, by_kinds}
-use Rattle.summand.proofs.Wires.{gate_at, sum_on, sum_none, sum_step, sum_all}
+use Rattle.summand.specs.Gates.{wirings, by_kinds}
+use Rattle.summand.proofs.Passes.{none, sum_rest, rest_none, rest_step}
 
 plus_zero : (p n : ℕ) → n < p → (0 + n) % p ≡ n
 plus_zero p n h = ap (λ (m : ℕ). m % p) (zero-add n) ∙ mod-eq_of_lt h
 
--- THE PLACE of a kind's sum
-pub placed : (kind : ℕ) → place_of kind < max_kind → kind ≡ suc (place_of kind)
-placed zero h = absurd (omega arith)
-placed (suc i) h = ap suc (omega arith)
-
-pub not_placed : (kind : ℕ) → max_kind ≤ place_of kind → (i : ℕ) → i < max_kind → kind ≢ suc i
-not_placed zero h i l e = absurd (omega arith)
-not_placed (suc j) h i l e = absurd (omega arith)
-
 -- ALL KINDS IN ONE PASS, on words
-module _ (p : ℕ) (ws point u v : List ℕ) where
+module _ (p : ℕ) (gs : List Gate) (point u v : List ℕ) where
   -- what a gate counts in the sum over the gates of a kind
   abbrev counted : ℕ → ℕ → Gate → ℕ
   counted kind a g = cond (eqb g.kind kind) (gate_weight (words p) point u v a g.left g.right) 0
 
   -- the sum over those from a on
   abbrev kind_on : ℕ → ℕ → ℕ
-  kind_on kind a = sum_on (words p) (counted kind) (length ws / 3) ws a
-
-  -- gate a has its kind's sum at this place, and this weight
-  pub record Known (a i w : ℕ) : Type 0 where
-    pub placed_at : i ≡ place_of (get_or ws (3 * a) 0)
-    pub inside : i < max_kind
-    pub weighed : w ≡ gate_weight (words p) point u v a (get_or ws (3 * a + 1) 0) (get_or ws (3 * a + 2) 0)
+  kind_on kind a = sum_rest (words p) (counted kind) gs a
 
   pub record Passed (sums : List ℕ) (a : ℕ) : Type 0 where
     pub positive : 0 < p
-    pub within : a ≤ length ws / 3
+    pub within : a ≤ length gs
     pub sized : length sums ≡ max_kind
     pub each : (i : ℕ) → i < max_kind → get_or sums i 0 ≡ kind_on (suc i) a
 
-  pub start : 0 < p → Passed (replicate max_kind 0) (length ws / 3)
+  pub start : 0 < p → Passed (replicate max_kind 0) (length gs)
   start pos = record {
     positive = pos;
     within = omega arith;
     sized = refl;
-    each = λ i h. get_or-replicate {A = ℕ} max_kind i 0 0 h ∙ sum_none (words p) (counted (suc i)) (length ws / 3) ws;
+    each = λ i h. get_or-replicate {A = ℕ} max_kind i 0 0 h ∙ rest_none (words p) (counted (suc i)) gs (length gs) (omega arith);
   }
 
-  module _ {sums : List ℕ} {a : ℕ} (h : Passed sums a) (more : 0 < a) where
-    step : (kind x : ℕ) → x ≡ counted kind (a - 1) (gate_at ws (a - 1)) → (x + kind_on kind a) % p ≡ kind_on kind (a - 1)
-    step kind x e = sum_step (words p) (counted kind) (length ws / 3) ws a x (kind_on kind a) more h.within e refl
+  module _ {sums : List ℕ} {a : ℕ} (h : Passed sums a) (more : 0 < a) {g : Gate} (is : get_or gs (a - 1) none ≡ g) where
+    step : (kind x : ℕ) → x ≡ counted kind (a - 1) g → (x + kind_on kind a) % p ≡ kind_on kind (a - 1)
+    step kind x e = rest_step (words p) (counted kind) gs a g x (kind_on kind a) more h.within is e refl
 
     -- a gate of another kind
-    other_kind : (kind : ℕ) → get_or ws (3 * (a - 1)) 0 ≢ kind → kind_on kind a ≡ kind_on kind (a - 1)
+    other_kind : (kind : ℕ) → g.kind ≢ kind → kind_on kind a ≡ kind_on kind (a - 1)
     other_kind kind ne =
-        sym (plus_zero p (kind_on kind a) (sum_from_below p h.positive (counted kind) a (gates_of (length ws / 3 - a) (drop (3 * a) ws))))
-        ∙ step kind 0 (simp (ne_eqb (get_or ws (3 * (a - 1)) 0) kind ne))
+        sym (plus_zero p (kind_on kind a) (sum_from_below p h.positive (counted kind) a (drop a gs)))
+        ∙ step kind 0 (simp (ne_eqb g.kind kind ne))
 
     -- the gate's kind has no sum
-    pub none_counts : max_kind ≤ place_of (get_or ws (3 * (a - 1)) 0) → Passed sums (a - 1)
-    none_counts past = record {
+    pub none_counts : ((i : ℕ) → i < max_kind → g.kind ≢ suc i) → Passed sums (a - 1)
+    none_counts apart = record {
       positive = h.positive;
       within = let w = h.within in omega arith;
       sized = h.sized;
-      each = λ i l. h.each i l ∙ other_kind (suc i) (not_placed (get_or ws (3 * (a - 1)) 0) past i l);
+      each = λ i l. h.each i l ∙ other_kind (suc i) (apart i l);
     }
 
     -- it has one, and the gate's weight is added there
-    pub one_counts : {i w : ℕ} → Known (a - 1) i w → Passed (set sums i ((w + get_or sums i 0) % p)) (a - 1)
-    one_counts {i} {w} k = record {
+    pub one_counts : {i w : ℕ} → g.kind ≡ suc i → i < max_kind → w ≡ gate_weight (words p) point u v (a - 1) g.left g.right
+        → Passed (set sums i ((w + get_or sums i 0) % p)) (a - 1)
+    one_counts {i} {w} kind inside weighed = record {
       positive = h.positive;
       within = let w = h.within in omega arith;
       sized = length-set sums i _ ∙ h.sized;
       each = λ j m. at j m (eqb j i) refl;
     }
       where
-        kind : get_or ws (3 * (a - 1)) 0 ≡ suc i
-        kind = placed (get_or ws (3 * (a - 1)) 0) (omega (arith, k.placed_at, k.inside)) ∙ ap suc (sym k.placed_at)
-
         at : (j : ℕ) → j < max_kind → (b : Bool) → eqb j i ≡ b → get_or (set sums i ((w + get_or sums i 0) % p)) j 0 ≡ kind_on (suc j) (a - 1)
         at j m true e =
             rw (eqb-true j i e)
-            (get_or-set_same sums i _ 0 (omega (arith, h.sized, k.inside)) ∙ ap (λ (s : ℕ). (w + s) % p) (h.each i k.inside)
-            ∙ step (suc i) w (k.weighed ∙ simp (eq-eqb (get_or ws (3 * (a - 1)) 0) (suc i) kind)))
+            (get_or-set_same sums i _ 0 (omega (arith, h.sized, inside)) ∙ ap (λ (s : ℕ). (w + s) % p) (h.each i inside)
+            ∙ step (suc i) w (weighed ∙ simp (eq-eqb g.kind (suc i) kind)))
         at j m false e =
             let ne : j ≢ i = eqb-false j i e in
             get_or-set_other sums i j _ 0 ne ∙ h.each j m ∙ other_kind (suc j) (λ same. ne (omega (arith, kind)))
 
-  pub end : (sums : List ℕ) (a : ℕ) → Passed sums a → a ≡ 0 → sums ≡ wirings (words p) (gates_in ws) point u v
+  pub end : (sums : List ℕ) (a : ℕ) → Passed sums a → a ≡ 0 → sums ≡ wirings (words p) gs point u v
   unfolding wiring
   end sums a h e =
-      ext_get_or 0 sums (wirings (words p) (gates_in ws) point u v) h.sized (λ i l.
+      ext_get_or 0 sums (wirings (words p) gs point u v) h.sized (λ i l.
       let m : i < max_kind = omega (arith, h.sized) in
-      h.each i m ∙ ap (kind_on (suc i)) e ∙ sum_all (words p) (counted (suc i)) (length ws / 3) ws
-      ∙ sym (get_d_map_lt whole kinds i 0 0 m ∙ ap whole (kind_at i m)))
+      h.each i m ∙ ap (kind_on (suc i)) e ∙ sym (get_d_map_lt whole kinds i 0 0 m ∙ ap whole (kind_at i m)))
     where
       whole : ℕ → ℕ
-      whole kind = wiring (words p) kind (gates_in ws) point u v
+      whole kind = wiring (words p) kind gs point u v
 
 -- FROM THE SUMS, kind by kind from the last
 module _ (p : ℕ) (sums : List ℕ) (x y : ℕ) where

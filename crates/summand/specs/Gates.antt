@@ -1,6 +1,6 @@
 -- The gates of a list of words, and the summand from the sums over the gates of each kind.
 -- Assumes nothing.
-use Rattle.std.specs.Prelude.{ℕ, zero, suc, ◌/◌, min, List, map, length}
+use Rattle.std.specs.Prelude.{ℕ, suc, ◌/◌, ◌<◌, ◌≡◌, ◌≢◌, Option, MatchOption, List, map, length}
 use Rattle.algebra.specs.Numbers.{Numbers}
 use Rattle.multilinear.specs.Extension.{sum_from}
 use Rattle.circuit.specs.Gate.{Gate, kinds, max_kind, operate}
@@ -11,10 +11,9 @@ use Rattle.sumcheck.specs.Summand.{wiring}
 abbrev pub gates_in : List ℕ → List Gate
 gates_in ws = gates_of (length ws / 3) ws
 
--- where the sum over the gates of a kind stands in a list of them, kind 1 first; one past the last for a kind that has none
-abbrev pub place_of : ℕ → ℕ
-place_of zero = max_kind
-place_of (suc i) = min i max_kind
+-- where the sum over the gates of a kind stands in a list of them, kind 1 first; a kind that does nothing has none
+abbrev pub PlaceOf : ℕ → Option ℕ → Type 0
+PlaceOf kind r = MatchOption r ((i : ℕ) → i < max_kind → kind ≢ suc i) (λ i. (kind ≡ suc i) × (i < max_kind))
 
 module _ {C : Type 0} (N : Numbers C) where
   -- all of them

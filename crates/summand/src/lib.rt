@@ -4,10 +4,11 @@
 ghost use Rattle.std.specs.Prelude.{◌≡◌, [], take, get_or};
 ghost use Rattle.field.specs.Modulus.{numbers};
 ghost use Rattle.sumcheck.specs.Summand.{gate_weight, combined, line_point};
-ghost use Rattle.summand.specs.Gates.{gates_in, place_of, wirings, by_kinds};
+ghost use Rattle.summand.specs.Gates.{gates_in, PlaceOf, wirings, by_kinds};
 
 use extension::MAX_COORDINATES;
 use field::Field;
+use layout::{Gate, Kind};
 
 // How many kinds of gates do something with two values: kind 1 and those that follow it.
 const KINDS: usize = 2;
@@ -26,42 +27,33 @@ fn scaled(f: Field, t: u32, difference: u32) -> u32
 pub fn line_point(f: Field, points: [[u32; MAX_COORDINATES]; 2], t: u32) -> [u32; MAX_COORDINATES]
     ensures { result ≡ line_point (numbers f) (get_or points 0 []) (get_or points 1 []) t }
 {
+    let [u, v] = points;
     let mut line = [0u32; MAX_COORDINATES];
-    let mut i = 0;
-    while i < MAX_COORDINATES {
-        let x = points[0][i];
-        line[i] = f.add(x, scaled(f, t, f.sub(points[1][i], x)));
-        i += 1;
+    for (i, &x) in u.iter().enumerate() {
+        line[i] = f.add(x, scaled(f, t, f.sub(v[i], x)));
     }
     line
 }
 
-// The weight of gate a with its two wires.
-fn gate_weight(
-    f: Field,
-    a: usize,
-    left: u32,
-    right: u32,
-    point: &[u32],
-    u: &[u32],
-    v: &[u32],
-) -> u32
-    ensures { result ≡ gate_weight (numbers f) point.now u.now v.now a left right }
+// The weight of gate a, with its two wires.
+fn gate_weight(f: Field, a: usize, gate: Gate, point: &[u32], u: &[u32], v: &[u32]) -> u32
+    ensures { result ≡ gate_weight (numbers f) point.now u.now v.now a gate.left gate.right }
 {
     let output = extension::weight_of(f, a, point);
-    let first = extension::weight_of(f, left as usize, u);
-    let second = extension::weight_of(f, right as usize, v);
+    let first = extension::weight_of(f, gate.left as usize, u);
+    let second = extension::weight_of(f, gate.right as usize, v);
     f.mul(f.mul(output, first), second)
 }
 
-// Where the sum over the gates of a kind stands, kind 1 first; KINDS for a kind that has none.
-fn place(kind: u32) -> usize
-    ensures { result ≡ place_of kind }
+// Where the sum over the gates of a kind stands, where the kind has one.
+fn place(kind: u32) -> Option<usize>
+    ensures { PlaceOf kind result }
 {
-    if kind == 0 {
-        return KINDS;
+    match Kind::try_from(kind) {
+        Ok(Kind::Add) => Some(0),
+        Ok(Kind::Multiply) => Some(1),
+        _ => None,
     }
-    lists::least(kind as usize - 1, KINDS)
 }
 
 // The sums over the gates of each kind, in one pass from the last gate to the first. The weight of a gate that counts in none
@@ -69,14 +61,12 @@ fn place(kind: u32) -> usize
 fn wirings(f: Field, gates: &[u32], point: &[u32], u: &[u32], v: &[u32]) -> [u32; KINDS]
     ensures { result ≡ wirings (numbers f) (gates_in gates.now) point.now u.now v.now }
 {
+    let triples = layout::gates(gates);
     let mut sums = [Field::ZERO; KINDS];
-    let mut a = gates.len() / 3;
-    while 0 < a {
-        a -= 1;
-        let g = 3 * a;
-        let i = place(gates[g]);
-        if i < KINDS {
-            let weight = gate_weight(f, a, gates[g + 1], gates[g + 2], point, u, v);
+    for a in (0..triples.len()).rev() {
+        let gate = Gate::from(triples[a]);
+        if let Some(i) = place(gate.kind) {
+            let weight = gate_weight(f, a, gate, point, u, v);
             sums[i] = f.add(weight, sums[i]);
         }
     }
@@ -88,9 +78,7 @@ fn by_kinds(f: Field, sums: [u32; KINDS], x: u32, y: u32) -> u32
     ensures { result ≡ by_kinds (numbers f) sums x y }
 {
     let mut total = Field::ZERO;
-    let mut i = KINDS;
-    while 0 < i {
-        i -= 1;
+    for i in (0..KINDS).rev() {
         let sum = sums[i];
         if sum != 0 {
             let value = evaluation::gate_value(f, i as u32 + 1, x, y);
@@ -113,8 +101,7 @@ pub fn combined(
 ) -> u32
     ensures { result ≡ combined (numbers f) (gates_in gates.now) point.now (take k (get_or points 0 [])) (take k (get_or points 1 [])) x y }
 {
-    let n = lists::least(k, MAX_COORDINATES);
-    let u = points[0];
-    let v = points[1];
+    let n = k.min(MAX_COORDINATES);
+    let [u, v] = points;
     by_kinds(f, wirings(f, gates, point, &u[..n], &v[..n]), x, y)
 }

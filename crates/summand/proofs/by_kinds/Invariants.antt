@@ -5,6 +5,3 @@ use Rattle.summand.proofs.by_kinds.Given as goal
 
 abbrev pub invariant-loop-i : goal.invariant-loop-i
 invariant-loop-i l = Added (modulus l.f) l.sums l.x l.y l.total l.i
-
-abbrev pub decreases-loop-i : goal.decreases-loop-i
-decreases-loop-i l = l.i

@@ -8,6 +8,6 @@ use Rattle.summand.proofs.combined.Goals as goal
 pub returns : goal.returns
 returns c =
     let rows = c.well_formed.1.1.1.0 in
-    let first = part_of_row c.args.points _ 0 c.args.k _ rows (omega arith) c.least-n.ensures in
-    let second = part_of_row c.args.points _ 1 c.args.k _ rows (omega arith) c.least-n.ensures in
+    let first = part_of_row c.args.points _ 0 c.args.k _ rows (omega arith) c.min-n.ensures in
+    let second = part_of_row c.args.points _ 1 c.args.k _ rows (omega arith) c.min-n.ensures in
     c.by_kinds.ensures ∙ rw (c.wirings.ensures, first, second) (from_sums _ _ _ _ _ _ _)
