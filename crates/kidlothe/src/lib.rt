@@ -4,15 +4,15 @@
 #![tactic(auto)]
 
 ghost use Rattle.std.specs.Prelude.{◌≡◌};
+ghost use Rattle.refusal.specs.Number.{cause_of};
 ghost use Rattle.circuit.specs.Legal.{load_answer};
 ghost use Rattle.protocol.specs.Check.{check_answer};
 ghost use Rattle.session.specs.Answers.{record_of, verdict_of};
 ghost use Rattle.kidlothe.specs.Record.{session_of, session_words, words_of_step};
 ghost use Rattle.kidlothe.specs.Answers.{plain_step, ExportsEvaluate, ExportsRead, ExportsProve, ExportsProveOne, ExportsOpen, ExportsStep};
 
-use prover::{Message, Proved};
-use session::{Opening, Session, Verdict};
-use verifier::Outcome;
+use refusal::Cause;
+use session::{Session, Verdict};
 
 // The words of a session's record, and the word of an open one.
 pub const SESSION_WORDS: usize = 4;
@@ -64,15 +64,21 @@ pub struct Step {
     pub coin: u32,
 }
 
+// The number of a refusal, 0 for none.
+fn number(checked: Result<(), Cause>) -> u32
+    ensures { result ≡ cause_of checked }
+{
+    match checked {
+        Ok(()) => 0,
+        Err(cause) => u32::from(cause),
+    }
+}
+
 // Load.
 pub fn kidlothe_load(circuit: &[u32]) -> u32
     ensures { result ≡ load_answer circuit.now }
 {
-    let loaded = legality::load(circuit);
-    match loaded {
-        Ok(()) => 0,
-        Err(cause) => u32::from(cause),
-    }
+    number(legality::load(circuit))
 }
 
 // Evaluate.
@@ -120,12 +126,12 @@ pub fn kidlothe_prove(circuit: &[u32], input: &[u32], coins: &[u32], messages: &
 {
     let proved = prover::prove(circuit, input, coins, messages);
     match proved {
-        Proved::Written(proof) => Proof {
+        Ok(proof) => Proof {
             refusal: 0,
             output: proof.output,
             words: proof.words,
         },
-        Proved::Refused(cause) => Proof {
+        Err(cause) => Proof {
             refusal: u32::from(cause),
             output: 0,
             words: 0,
@@ -144,8 +150,8 @@ pub fn kidlothe_prove_one(
 {
     let message = prover::prove_one(circuit, input, prefix, buffer);
     match message {
-        Message::Written(words) => Written { refusal: 0, words },
-        Message::Refused(cause) => Written {
+        Ok(words) => Written { refusal: 0, words },
+        Err(cause) => Written {
             refusal: u32::from(cause),
             words: 0,
         },
@@ -162,11 +168,7 @@ pub fn kidlothe_check(
 ) -> u32
     ensures { result ≡ check_answer circuit.now input.now output coins.now messages.now }
 {
-    let outcome = verifier::check(circuit, input, output, coins, messages);
-    match outcome {
-        Outcome::Accepted => 0,
-        Outcome::Refused(cause) => u32::from(cause),
-    }
+    number(verifier::check(circuit, input, output, coins, messages))
 }
 
 // The record that four words stand for.
@@ -216,11 +218,11 @@ pub fn kidlothe_open(
 {
     let opening = session::open(circuit, input, output, coins);
     match opening {
-        Opening::Opened(opened) => {
+        Ok(opened) => {
             *session = session_words(opened);
             0
         }
-        Opening::Refused(cause) => u32::from(cause),
+        Err(cause) => u32::from(cause),
     }
 }
 

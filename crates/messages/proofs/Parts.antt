@@ -11,6 +11,7 @@ use Rattle.circuit.specs.Circuit.{exponent_at, width_of, gates_before}
 use Rattle.circuit.proofs.Sized.{width_small, exponent_width}
 use Rattle.layout.specs.Gates.{GatesBefore}
 use Rattle.standing.proofs.Rounds.{own_layer}
+use Rattle.protocol.specs.Rounds.{place}
 use Rattle.messages.specs.Writing.{values_in, Writable}
 
 -- the part that the code takes for a layer ends at a small place
@@ -18,7 +19,7 @@ pub part_small : (c : List ℕ) (layer from k w : ℕ) → GatesBefore c layer f
 part_small c layer from k w before ew = omega (arith, before.few, ew, width_small k)
 
 -- it is the layer's
-module _ (c : List ℕ) (layer round : ℕ) (past values buffer : List ℕ) (h : Writable c layer round past (values_in c layer values) buffer) (from w : ℕ)
+module _ (c : List ℕ) (layer round : ℕ) (past values buffer : List ℕ) (h : Writable c (place layer round) past (values_in c layer values) buffer) (from w : ℕ)
     (before : GatesBefore c layer from) (ew : w ≡ width_of (exponent_at c layer)) where
   at_from : from ≡ gates_before c layer
   at_from = before.counted (own_layer c layer round past h.there)
@@ -38,5 +39,5 @@ module _ (c : List ℕ) (layer round : ℕ) (past values buffer : List ℕ) (h :
       let cut : from + w - from ≡ w = omega arith in
       ap₂ (λ (n m : ℕ). take n (drop m values)) (cut ∙ wide) at_from
 
-  pub part_writable : Writable c layer round past (take (from + w - from) (drop from values)) buffer
-  part_writable = subst (λ (vs : List ℕ). Writable c layer round past vs buffer) (sym part_values) h
+  pub part_writable : Writable c (place layer round) past (take (from + w - from) (drop from values)) buffer
+  part_writable = subst (λ (vs : List ℕ). Writable c (place layer round) past vs buffer) (sym part_values) h

@@ -4,12 +4,12 @@
 use Prim.Native.Nat.{ℕ, zero, suc, ◌+◌, ◌-◌, ◌*◌, ◌^◌, ◌≤◌, ◌<◌, min}
 use mathlib.Core.Path.{◌≡◌, refl, sym, ap, ap₂, ◌∙◌}
 use mathlib.Core.Bool.{Bool, true, false, cond, true≢false}
-use mathlib.Core.List.{List, [], ◌∷◌, ◌++◌}
+use mathlib.Core.List.{List, [], ◌++◌}
 use native.Mathlib.Nat.{le_of_eq}
 use native.Mathlib.Numerals.{add-one}
 use native.Mathlib.Decide.{dec_lt}
 use native.Mathlib.Omega.{arith}
-use lib.ListN.{length, length-take, length-drop, take, drop, take-append-drop}
+use lib.ListN.{length, length-take, length-drop, take, drop, get_or, take-append-drop}
 use lib.Seq.{length-take-le, take_all, take-take, take-append-le, take-append-add}
 use borrow.Author.Tests.{eq-eqb, eqb-true}
 use Rattle.lists.specs.Each.{All}
@@ -41,7 +41,7 @@ use Rattle.protocol.specs.Prove.{message_from}
 use Rattle.standing.specs.Standing.{Row, Stands}
 use Rattle.standing.specs.declared.Stand.{Stand}
 use Rattle.standing.proofs.Lengths.{length_of_line, length_of_sum}
-use Rattle.standing.proofs.Rounds.{own_small, own_coins, point_size, gates_above_lem, above_point}
+use Rattle.standing.proofs.Rounds.{own_small, own_coins, point_size, gates_above_lem}
 use Rattle.messages.specs.Writing.{Writable}
 
 -- the front of a computed row, put over a buffer that holds it
@@ -78,12 +78,12 @@ rows_back k xs u v small fits first second = go (dec_lt (length xs) k)
 -- what the code computes from a stand, modulo p
 abbrev pub summed : ℕ → List ℕ → List ℕ → ℕ → Stand → List ℕ
 summed p gates vs round s =
-    round_message (words p) (min s.own row_length) (gates_in gates) (take s.above s.point) vs (s.u ∷ s.v ∷ []) round
+    round_message (words p) (min s.own row_length) (gates_in gates) s.point vs (s.points) round
 
 abbrev pub lined : ℕ → List ℕ → Stand → List ℕ
-lined p vs s = padded (line_halving (words p) vs (take s.own s.u) (take s.own s.v))
+lined p vs s = padded (line_halving (words p) vs (take s.own (get_or s.points 0 [])) (take s.own (get_or s.points 1 [])))
 
-module _ (c : List ℕ) (layer round : ℕ) (past vs buffer : List ℕ) (h : Writable c layer round past vs buffer) where
+module _ (c : List ℕ) (layer round : ℕ) (past vs buffer : List ℕ) (h : Writable c (place layer round) past vs buffer) where
   here : AtRound c (place layer round) (length past)
   here = h.there
 
@@ -138,7 +138,7 @@ module _ (c : List ℕ) (layer round : ℕ) (past vs buffer : List ℕ) (h : Wri
           let all : round ≡ 2 * k = eqb-true round (2 * k) e in
           let wide : length (take k xs) ≡ k = length-take-le k xs (omega (arith, all, own_coins c layer round past here)) in
           ap (λ (b : Bool). length (either b)) e
-          ∙ (line_message_words (prime_of c) pos vs (take k xs) (drop k xs)).0 ∙ ap suc wide ∙ sym (add-one k) ∙ length_of_line c (place layer round) e
+          ∙ (line_message_words (prime_of c) pos vs (take k xs) (drop k xs)).0 ∙ ap suc wide ∙ sym (add-one k) ∙ length_of_line c (place layer round) k refl e
       go false e =
           ap (λ (b : Bool). length (either b)) e
           ∙ (sum_message_words (prime_of c) pos k (gates_above c layer) (point_at c layer past) vs xs).0 ∙ length_of_sum c (place layer round) e
@@ -149,29 +149,25 @@ module _ (c : List ℕ) (layer round : ℕ) (past vs buffer : List ℕ) (h : Wri
       over_whole ws buffer after (omega (arith, h.room, ap length e, message_size)) put ∙ ap (λ (l : List ℕ). over l buffer) e
 
   module _ (s : Stand) (t : Stands c layer past s) where
-    abbrev rows : List (List ℕ)
-    rows = s.u ∷ s.v ∷ []
-
     pub sum_words : is_line c (place layer round) ≡ false → (gates : List ℕ) → GatesAbove c layer gates
         → summed (prime_of c) gates vs round s ≡ message_from c vs (place layer round) past
     sum_words nl gates above =
         let N = words (prime_of c) in
         let k : ℕ = exponent_at c layer in
         let xs : List ℕ = fixed c layer past in
-        let ms : ℕ → List Gate → List ℕ → List ℕ = λ k gs z. round_message N (min k row_length) gs z vs rows round in
+        let ms : ℕ → List Gate → List ℕ → List ℕ = λ k gs z. round_message N (min k row_length) gs z vs s.points round in
         let size : length xs ≡ round = own_coins c layer round past here in
         let few : k ≤ max_exponent = own_small c layer round past here in
         let small : k ≤ row_length = omega arith in
         let reached : round ≤ 2 * k = here.reached in
         let ne : ¬ (round ≡ 2 * k) = λ (q : round ≡ 2 * k). true≢false (sym (eq-eqb round (2 * k) q) ∙ nl) in
-        let point = above_point c layer round past here s t in
         let law =
-        honest_round (prime_of c) prime (let p = least in omega arith) k round (gates_above c layer) (point_at c layer past) vs rows few
+        honest_round (prime_of c) prime (let p = least in omega arith) k round (gates_above c layer) (point_at c layer past) vs s.points few
         (omega (arith, reached, ne)) t.first.size t.second.size h.sized wired (le_of_eq (count_above ∙ ap (λ (n : ℕ). 2 ^ n) (sym (point_size c layer round past here)))) in
-        let back : take round (take k s.u ++ take k s.v) ≡ xs =
-        ap (λ (n : ℕ). take n (take k s.u ++ take k s.v)) (sym size) ∙ rows_back k xs s.u s.v small (omega arith) t.first t.second in
-        ap (λ (n : ℕ). ms n (gates_in gates) (take s.above s.point)) t.own
-        ∙ ap₂ (ms k) (gates_above_lem c layer round past here gates above) point ∙ law
+        let back : take round (take k (get_or s.points 0 []) ++ take k (get_or s.points 1 [])) ≡ xs =
+        ap (λ (n : ℕ). take n (take k (get_or s.points 0 []) ++ take k (get_or s.points 1 []))) (sym size) ∙ rows_back k xs (get_or s.points 0 []) (get_or s.points 1 []) small (omega arith) t.first t.second in
+        ap (λ (n : ℕ). ms n (gates_in gates) s.point) t.own
+        ∙ ap₂ (ms k) (gates_above_lem c layer round past here gates above) t.point ∙ law
         ∙ ap (sum_message N k (gates_above c layer) (point_at c layer past) vs) back
         ∙ sym (ap either nl)
 
@@ -186,11 +182,11 @@ module _ (c : List ℕ) (layer round : ℕ) (past vs buffer : List ℕ) (h : Wri
         let small : k ≤ max_exponent = own_small c layer round past here in
         let wide-u : length (take k xs) ≡ k = length-take-le k xs (omega arith) in
         let wide-v : length (drop k xs) ≡ k = length-drop k xs ∙ omega arith in
-        let u : take s.own s.u ≡ take k xs = front_take t.first s.own (t.own ∙ sym wide-u) in
-        let v : take s.own s.v ≡ drop k xs = front_take t.second s.own (t.own ∙ sym wide-v) in
+        let u : take s.own (get_or s.points 0 []) ≡ take k xs = front_take t.first s.own (t.own ∙ sym wide-u) in
+        let v : take s.own (get_or s.points 1 []) ≡ drop k xs = front_take t.second s.own (t.own ∙ sym wide-v) in
         let same : length (take k xs) ≡ length (drop k xs) = wide-u ∙ sym wide-v in
         let count : length (line_halving N vs (take k xs) (drop k xs)) ≡ n =
-        length_line_halving N vs (take k xs) (drop k xs) same ∙ ap suc wide-u ∙ sym (add-one k) ∙ length_of_line c (place layer round) il ∙ sym en in
+        length_line_halving N vs (take k xs) (drop k xs) same ∙ ap suc wide-u ∙ sym (add-one k) ∙ length_of_line c (place layer round) k refl il ∙ sym en in
         take_front (line_halving N vs (take k xs) (drop k xs)) _ _ n (ap₂ (λ (a b : List ℕ). padded (line_halving N vs a b)) u v) count
         ∙ line_by_halves (prime_of c) prime vs (take k xs) (drop k xs) same (let p = least in omega (arith, wide-u, small))
         (h.sized ∙ ap (λ (m : ℕ). 2 ^ m) (sym wide-u)) h.residues

@@ -3,76 +3,58 @@
 #![tactic(auto)]
 
 ghost use Rattle.std.specs.Prelude.{true, false};
+ghost use Rattle.standing.specs.Standing.{as_place};
 ghost use Rattle.messages.specs.Writing.{WritesMessage, WritesIf};
 
 use field::Field;
+use standing::Place;
 
 // Writes the message of a sum round to the buffer's front, from the values of its layer.
-fn write_sum(
-    circuit: &[u32],
-    layer: usize,
-    round: usize,
-    past: &[u32],
-    values: &[u32],
-    buffer: &mut [u32],
-)
-    ensures { WritesIf false circuit.now layer round past.now values.now buffer.old buffer.new }
+fn write_sum(circuit: &[u32], place: Place, past: &[u32], values: &[u32], buffer: &mut [u32])
+    ensures { WritesIf false circuit.now (as_place place) past.now values.now buffer.old buffer.new }
 {
-    let s = standing::at_round(circuit, layer, round, past);
+    let stand = standing::at_round(circuit, place, past);
     let f = Field::of(layout::prime(circuit));
     let words = sums::sum_message(
         f,
-        layout::gates_above(circuit, layer),
-        &s.point[..s.above],
+        layout::gates_above(circuit, place.layer),
+        stand.point.coordinates(),
         values,
-        [s.u, s.v],
-        s.own,
-        round,
+        stand.points,
+        stand.own,
+        place.round,
     );
-    lists::put(buffer, &words[..3]);
+    lists::put(buffer, &words);
 }
 
 // Writes a layer's line message to the buffer's front.
-fn write_line(
-    circuit: &[u32],
-    layer: usize,
-    round: usize,
-    past: &[u32],
-    values: &[u32],
-    buffer: &mut [u32],
-)
-    ensures { WritesIf true circuit.now layer round past.now values.now buffer.old buffer.new }
+fn write_line(circuit: &[u32], place: Place, past: &[u32], values: &[u32], buffer: &mut [u32])
+    ensures { WritesIf true circuit.now (as_place place) past.now values.now buffer.old buffer.new }
 {
-    let s = standing::at_round(circuit, layer, round, past);
-    let own = s.own;
-    let u = s.u;
-    let v = s.v;
-    let points = [u, v];
+    let stand = standing::at_round(circuit, place, past);
     let f = Field::of(layout::prime(circuit));
-    let words = line::line_message(f, values, points, own);
-    let count = own + 1;
-    lists::put(buffer, &words[..count]);
+    let words = line::line_message(f, values, stand.points, stand.own);
+    lists::put(buffer, &words[..stand.own + 1]);
 }
 
 // Writes the message of a round to the buffer's front, from the values of all layers and the coins before it. Both forms of the proof write by it.
 pub fn write_message(
     circuit: &[u32],
-    layer: usize,
-    round: usize,
+    place: Place,
     past: &[u32],
     values: &[u32],
     buffer: &mut [u32],
 )
-    ensures { WritesMessage circuit.now layer round past.now values.now buffer.old buffer.new }
+    ensures { WritesMessage circuit.now (as_place place) past.now values.now buffer.old buffer.new }
 {
-    let from = layout::gates_before(circuit, layer);
-    let to = from + layout::width(layout::exponent(circuit, layer));
+    let from = layout::gates_before(circuit, place.layer);
+    let to = from + layout::width(layout::exponent(circuit, place.layer));
     if values.len() < to {
         return;
     }
-    if standing::is_line(circuit, layer, round) {
-        write_line(circuit, layer, round, past, &values[from..to], buffer);
-        return;
+    if place.is_line(circuit) {
+        write_line(circuit, place, past, &values[from..to], buffer);
+    } else {
+        write_sum(circuit, place, past, &values[from..to], buffer);
     }
-    write_sum(circuit, layer, round, past, &values[from..to], buffer);
 }

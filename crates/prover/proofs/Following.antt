@@ -16,7 +16,7 @@ use Rattle.refusal.specs.Order.{need}
 use Rattle.refusal.specs.declared.Cause.{Cause}
 use Rattle.refusal.specs.declared.Cause.TheVariants.{BufferShort, CoinCount, CoinWord}
 use Rattle.refusal.proofs.Order.{refused_first, refused_by, left_by}
-use Rattle.circuit.specs.Circuit.{prime_of, depth, output_exponent, exponent_at, coin_count}
+use Rattle.circuit.specs.Circuit.{prime_of, depth, exponent_at, coin_count}
 use Rattle.circuit.specs.Legal.{all_below, lists_cause}
 use Rattle.circuit.specs.Sized.{LegalCircuit}
 use Rattle.circuit.proofs.Sized.{one_output, deep}
@@ -26,17 +26,14 @@ use Rattle.protocol.specs.Judge.{message_length}
 use Rattle.protocol.specs.Prove.{message_from, honest, place_of, prove_one_cause, wrote, refused, one_of, prove_one_answer, prove_one_buffer}
 use Rattle.protocol.proofs.Points.{start_next}
 use Rattle.protocol.proofs.Places.{named}
-use Rattle.standing.proofs.Coins.{so_far, sum_all, sum_start, sum_coins}
+use Rattle.standing.proofs.Coins.{all_coins}
 use Rattle.messages.specs.Writing.{values_in}
 use Rattle.prover.specs.Answers.{ProvesOne}
-use Rattle.prover.specs.declared.Message.TheVariants.{Written, Refused}
+use Rattle.std.specs.Prelude.{Ok, Err}
 use Rattle.prover.proofs.Values.{layer_values_lem}
 
 -- THE ROUND
 module _ (c : List ℕ) (legal : LegalCircuit c) where
-  all_coins : layer_start c (depth c + 1) ≡ coin_count c
-  all_coins = sym (sum_start c (depth c + 1) (so_far c legal)) ∙ sum_all c (output_exponent c) 2 legal ∙ sum_coins c
-
   start_after : (i : ℕ) → 1 ≤ i → i ≤ depth c → layer_start c (i + 1) ≡ layer_start c i + 2 * exponent_at c i + 1
   start_after zero low n = absurd (omega arith)
   start_after (suc l) low n = ap (layer_start c) (add-one (suc l)) ∙ start_next c l (omega (arith, deep c legal))
@@ -50,7 +47,7 @@ module _ (c : List ℕ) (legal : LegalCircuit c) where
     pub next_layer : n < coin_count c → 2 * k < round → (1 ≤ layer + 1) × (layer + 1 ≤ depth c) × (n ≡ layer_start c (layer + 1) + (round - (2 * k + 1)))
     next_layer few past =
         let next : layer_start c (layer + 1) ≡ layer_start c layer + 2 * exponent_at c layer + 1 = start_after layer low inside in
-        let more : ¬ (layer ≡ depth c) = λ (e : layer ≡ depth c). omega (arith, ap (λ (i : ℕ). layer_start c (i + 1)) e, all_coins) in
+        let more : ¬ (layer ≡ depth c) = λ (e : layer ≡ depth c). omega (arith, ap (λ (i : ℕ). layer_start c (i + 1)) e, all_coins c legal) in
         (omega arith, omega (arith, more), omega arith)
 
     pub this_layer : round ≤ 2 * k → AtRound c (place layer round) n
@@ -66,23 +63,23 @@ module _ (c input prefix before : List ℕ) where
     pub there : AtRound c here (length prefix)
 
   -- a cause, whatever it is, leaves the buffer
-  by_cause : (cause : Cause) → prove_one_cause c input prefix before ≡ number_of cause → ProvesOne c input prefix before (Refused cause) before
+  by_cause : (cause : Cause) → prove_one_cause c input prefix before ≡ number_of cause → ProvesOne c input prefix before (Err cause) before
   unfolding prove_one_answer prove_one_buffer
   by_cause cause e = record {
     answer = refused_by (λ k. one_of k (message_length c (place_of c prefix))) refused (λ n. refl) cause (prove_one_cause c input prefix before) e;
     buffer = sym (left_by cause (prove_one_cause c input prefix before) (over (honest c input (place_of c prefix) prefix) before) before e);
   }
 
-  pub one_lists : (cause : Cause) → number_of cause ≡ lists_cause c input → ProvesOne c input prefix before (Refused cause) before
+  pub one_lists : (cause : Cause) → number_of cause ≡ lists_cause c input → ProvesOne c input prefix before (Err cause) before
   unfolding prove_one_cause
   one_lists cause e = by_cause cause (refused_first cause (lists_cause c input) _ e)
 
   module _ (none : lists_cause c input ≡ 0) where
-    pub one_count : coin_count c ≤ length prefix → ProvesOne c input prefix before (Refused CoinCount) before
+    pub one_count : coin_count c ≤ length prefix → ProvesOne c input prefix before (Err CoinCount) before
     unfolding prove_one_cause
     one_count l = by_cause CoinCount (simp (none, le-ltb (length prefix) (coin_count c) l))
 
-    pub one_word : length prefix < coin_count c → all_below (prime_of c) prefix ≡ false → ProvesOne c input prefix before (Refused CoinWord) before
+    pub one_word : length prefix < coin_count c → all_below (prime_of c) prefix ≡ false → ProvesOne c input prefix before (Err CoinWord) before
     unfolding prove_one_cause
     one_word few e = by_cause CoinWord (simp (none, lt-ltb (length prefix) (coin_count c) few, e))
 
@@ -91,13 +88,13 @@ module _ (c input prefix before : List ℕ) where
     unfolding prove_one_cause
     only_room = simp (due.none, lt-ltb (length prefix) (coin_count c) due.few, due.residues, named c prefix here due.there)
 
-    pub one_short : length before < message_length c here → ProvesOne c input prefix before (Refused BufferShort) before
+    pub one_short : length before < message_length c here → ProvesOne c input prefix before (Err BufferShort) before
     one_short l = by_cause BufferShort (only_room ∙ ap (λ (b : Bool). need b 10 0) (lt-leb (message_length c here) (length before) l))
 
     -- the honest message over the buffer
     pub one_written : {values after : List ℕ} → message_length c here ≤ length before → AllValues c input values
         → after ≡ over (message_from c (values_in c here.layer values) here prefix) before
-        → ProvesOne c input prefix before (Written (message_length c here)) after
+        → ProvesOne c input prefix before (Ok (message_length c here)) after
     unfolding prove_one_answer prove_one_buffer honest
     one_written {values} room a e =
         let name : here ≡ place_of c prefix = sym (named c prefix here due.there) in

@@ -21,21 +21,21 @@ use Rattle.protocol.specs.Prove.{proved, refused, proof_of, honest, transcript, 
 use Rattle.prover.specs.Writing.{Provable, Writes}
 use Rattle.prover.specs.Answers.{Proves}
 use Rattle.prover.specs.declared.Proof.{Proof}
-use Rattle.prover.specs.declared.Proved.TheVariants.{Written, Refused}
+use Rattle.std.specs.Prelude.{Ok, Err}
 
 module _ (c input cs before : List ℕ) where
-  by_cause : (cause : Cause) → prove_cause c input cs before ≡ number_of cause → Proves c input cs before (Refused cause) before
+  by_cause : (cause : Cause) → prove_cause c input cs before ≡ number_of cause → Proves c input cs before (Err cause) before
   unfolding prove_answer prove_buffer
   by_cause cause e = record {
     answer = refused_by (λ k. proof_of k (value c input) (message_words c)) refused (λ n. refl) cause (prove_cause c input cs before) e;
     buffer = sym (left_by cause (prove_cause c input cs before) (over (transcript c (honest c input) cs) before) before e);
   }
 
-  pub whole_lists : (cause : Cause) → number_of cause ≡ lists_cause c input → Proves c input cs before (Refused cause) before
+  pub whole_lists : (cause : Cause) → number_of cause ≡ lists_cause c input → Proves c input cs before (Err cause) before
   unfolding prove_cause
   whole_lists cause e = by_cause cause (refused_first cause (lists_cause c input) _ e)
 
-  pub whole_coins : (cause : Cause) → CoinsRefused c input cs cause → Proves c input cs before (Refused cause) before
+  pub whole_coins : (cause : Cause) → CoinsRefused c input cs cause → Proves c input cs before (Err cause) before
   unfolding prove_cause
   whole_coins cause r = by_cause cause (by_coins c input cs _ cause r)
 
@@ -44,7 +44,7 @@ module _ (c input cs before : List ℕ) where
     unfolding prove_cause
     only_room = by_rest c input cs _ a
 
-    pub whole_short : length before < message_words c → Proves c input cs before (Refused BufferShort) before
+    pub whole_short : length before < message_words c → Proves c input cs before (Err BufferShort) before
     whole_short l = by_cause BufferShort (only_room ∙ ap (λ (b : Bool). need b 10 0) (lt-leb (message_words c) (length before) l))
 
     module _ (room : message_words c ≤ length before) where
@@ -54,7 +54,7 @@ module _ (c input cs before : List ℕ) where
       no_cause : prove_cause c input cs before ≡ 0
       no_cause = only_room ∙ ap (λ (b : Bool). need b 10 0) (le-leb (message_words c) (length before) room)
 
-      pub whole_written : (r : Proof) (after : List ℕ) → Writes c input cs before r after → Proves c input cs before (Written r) after
+      pub whole_written : (r : Proof) (after : List ℕ) → Writes c input cs before r after → Proves c input cs before (Ok r) after
       unfolding prove_answer prove_buffer
       whole_written r after w = record {
         answer = ap₂ proved w.output w.words ∙ sym (ap (λ (k : ℕ). proof_of k (value c input) (message_words c)) no_cause);

@@ -51,7 +51,7 @@ module _ (c input : List ℕ) (e : lists_cause c input ≡ 0) where
         front_part a (gates_before c layer) (2 ^ exponent_at c layer) (layer_room c input e layer h) ∙ layer_part c input e layer h
 
     pub writable : (layer round : ℕ) (past buffer : List ℕ) → AtRound c (place layer round) (length past)
-        → message_length c (place layer round) ≤ length buffer → Writable c layer round past (values_in c layer values) buffer
+        → message_length c (place layer round) ≤ length buffer → Writable c (place layer round) past (values_in c layer values) buffer
     unfolding values_at
     writable layer round past buffer at room =
         let same = layer_values_lem layer at.last in

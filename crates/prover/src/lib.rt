@@ -6,33 +6,21 @@ ghost use Rattle.circuit.specs.Circuit.{coin_count};
 ghost use Rattle.circuit.specs.Limits.{max_values};
 ghost use Rattle.circuit.specs.Legal.{lists_cause};
 ghost use Rattle.circuit.specs.Sized.{LegalCircuit};
-ghost use Rattle.protocol.specs.Rounds.{place, AtRound};
+ghost use Rattle.protocol.specs.Rounds.{AtRound};
+ghost use Rattle.standing.specs.Standing.{as_place};
 ghost use Rattle.evaluation.specs.Layer.{AllValues};
 ghost use Rattle.prover.specs.Writing.{Provable, Writes};
 ghost use Rattle.prover.specs.Answers.{Proves, ProvesOne};
 
 use evaluation::MAX_VALUES;
 use refusal::Cause;
+use standing::Place;
 
 // An output, and the number of message words that were written for it.
-#[derive(Clone, Copy)]
+#[derive(Clone, Copy, PartialEq, Eq, Debug)]
 pub struct Proof {
     pub output: u32,
     pub words: usize,
-}
-
-// What a whole proof answers.
-#[derive(Clone, Copy)]
-pub enum Proved {
-    Written(Proof),
-    Refused(Cause),
-}
-
-// What a proof of one message answers: its word count.
-#[derive(Clone, Copy)]
-pub enum Message {
-    Written(usize),
-    Refused(Cause),
 }
 
 // Writes the values of all layers, the output's first, to the front of an array for the largest circuit's.
@@ -54,15 +42,9 @@ fn write_all(circuit: &[u32], input: &[u32], coins: &[u32], messages: &mut [u32]
     let mut at = 0;
     for layer in 1..layout::depth(circuit) + 1 {
         for round in 0..2 * layout::exponent(circuit, layer) as usize + 1 {
-            messages::write_message(
-                circuit,
-                layer,
-                round,
-                &coins[..n],
-                &values[..MAX_VALUES],
-                &mut messages[at..],
-            );
-            at += standing::message_length(circuit, layer, round);
+            let place = Place { layer, round };
+            messages::write_message(circuit, place, &coins[..n], &values, &mut messages[at..]);
+            at += place.message_length(circuit);
             n += 1;
         }
     }
@@ -73,35 +55,26 @@ fn write_all(circuit: &[u32], input: &[u32], coins: &[u32], messages: &mut [u32]
 }
 
 // Prove, whole: 1 to 9, 11, 12, 10; then the output and the words written.
-pub fn prove(circuit: &[u32], input: &[u32], coins: &[u32], messages: &mut [u32]) -> Proved
+pub fn prove(
+    circuit: &[u32],
+    input: &[u32],
+    coins: &[u32],
+    messages: &mut [u32],
+) -> Result<Proof, Cause>
     ensures { Proves circuit.now input.now coins.now messages.old result messages.new }
 {
-    let lists = legality::check_lists(circuit, input);
-    if let Err(cause) = lists {
-        return Proved::Refused(cause);
+    legality::check_lists(circuit, input)?;
+    standing::check_coins(circuit, coins)?;
+    if messages.len() < standing::message_words(circuit) {
+        return Err(Cause::BufferShort);
     }
-    let taken = standing::check_coins(circuit, coins);
-    if let Err(cause) = taken {
-        return Proved::Refused(cause);
-    }
-    let short = messages.len() < standing::message_words(circuit);
-    if short {
-        return Proved::Refused(Cause::BufferShort);
-    }
-    Proved::Written(write_all(circuit, input, coins, messages))
-}
-
-// A round of a layer.
-#[derive(Clone, Copy)]
-struct Place {
-    layer: usize,
-    round: usize,
+    Ok(write_all(circuit, input, coins, messages))
 }
 
 // The round whose message follows these many coins.
 fn place_after(circuit: &[u32], coins: usize) -> Place
     requires { LegalCircuit circuit.now × (coins < coin_count circuit.now) }
-    ensures { AtRound circuit.now (place result.layer result.round) coins }
+    ensures { AtRound circuit.now (as_place result) coins }
 {
     let mut layer = 1;
     let mut round = coins;
@@ -116,33 +89,28 @@ fn place_after(circuit: &[u32], coins: usize) -> Place
 }
 
 // Prove, one message: the same refusals with a coin prefix; then the words of the message that follows it.
-pub fn prove_one(circuit: &[u32], input: &[u32], prefix: &[u32], buffer: &mut [u32]) -> Message
+pub fn prove_one(
+    circuit: &[u32],
+    input: &[u32],
+    prefix: &[u32],
+    buffer: &mut [u32],
+) -> Result<usize, Cause>
     ensures { ProvesOne circuit.now input.now prefix.now buffer.old result buffer.new }
 {
-    let lists = legality::check_lists(circuit, input);
-    if let Err(cause) = lists {
-        return Message::Refused(cause);
-    }
+    legality::check_lists(circuit, input)?;
     if standing::coin_count(circuit) <= prefix.len() {
-        return Message::Refused(Cause::CoinCount);
+        return Err(Cause::CoinCount);
     }
     if !legality::all_below(prefix, layout::prime(circuit)) {
-        return Message::Refused(Cause::CoinWord);
+        return Err(Cause::CoinWord);
     }
     let place = place_after(circuit, prefix.len());
-    let words = standing::message_length(circuit, place.layer, place.round);
+    let words = place.message_length(circuit);
     if buffer.len() < words {
-        return Message::Refused(Cause::BufferShort);
+        return Err(Cause::BufferShort);
     }
     let mut values = [0u32; MAX_VALUES];
     fill_values(circuit, input, &mut values);
-    messages::write_message(
-        circuit,
-        place.layer,
-        place.round,
-        prefix,
-        &values[..MAX_VALUES],
-        buffer,
-    );
-    Message::Written(words)
+    messages::write_message(circuit, place, prefix, &values, buffer);
+    Ok(words)
 }

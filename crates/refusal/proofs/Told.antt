@@ -17,6 +17,9 @@ refusal_told case answer = told cause_of case answer
 pub none_told : {A : Type 0} {r : Result A Cause} {x : A} {n : ℕ} → r ≡ Ok x → cause_of r ≡ n → n ≡ 0
 none_told case answer = sym (told cause_of case answer)
 
--- a refusal that is passed on
+-- the refusal that a `?` hands on
+pub refused_is : {A : Type 0} (r : Result A Cause) (cause : Cause) → IsErrAnd r (λ e. e ≡ cause) → r ≡ Err cause
+refused_is r cause passed = let p = err_from_is_err_and r passed in p.1 ∙ ap Err p.2
+
 pub passed_on : {A : Type 0} (r : Result A Cause) (cause : Cause) {n : ℕ} → IsErrAnd r (λ e. e ≡ cause) → number_of cause ≡ n → cause_of r ≡ n
-passed_on r cause passed answer = let p = err_from_is_err_and r passed in ap cause_of p.1 ∙ ap number_of p.2 ∙ answer
+passed_on r cause passed answer = ap cause_of (refused_is r cause passed) ∙ answer

@@ -11,8 +11,7 @@ use borrow.Author.Tests.{eqb-true}
 use Rattle.refusal.specs.Number.{number_of}
 use Rattle.refusal.specs.Order.{need}
 use Rattle.refusal.specs.declared.Cause.{Cause}
-use Rattle.refusal.specs.declared.Cause.TheVariants.{RecordUnfit}
-use Rattle.refusal.proofs.Order.{refused_by, refused_first}
+use Rattle.refusal.proofs.Order.{refused_by, refused_first, first_none, need_none}
 use Rattle.circuit.specs.Limits.{max_coins}
 use Rattle.circuit.specs.Circuit.{depth, output_exponent, exponents, exponent_at, coin_count}
 use Rattle.circuit.specs.Legal.{lists_cause}
@@ -22,8 +21,9 @@ use Rattle.circuit.proofs.Largest.{in_limits}
 use Rattle.walk.specs.Session.{Answer, refused, Record, ended, step_final, step_last, step_judge, step_open, step}
 use Rattle.protocol.specs.Rounds.{Place, place, coins_of, layer_start, is_line, coins_before, is_last, AtRound}
 use Rattle.protocol.specs.Judge.{message_at, judge, input_agrees, descent}
+use Rattle.protocol.specs.Check.{need_coins}
 use Rattle.protocol.specs.Session.{record_fits, step_cause, step_after, step_answer}
-use Rattle.protocol.proofs.Coins.{CoinsRefused, Admitted, counted, by_coins, by_rest}
+use Rattle.protocol.proofs.Coins.{CoinsRefused, Admitted, counted, by_coins, by_rest, coins_more}
 use Rattle.protocol.proofs.Points.{start_next}
 use Rattle.protocol.proofs.Rounds.{coins_append}
 use Rattle.session.specs.Answers.{record_of, verdict_of, Fitting, goes_on, GoesOn, StepsOpen, Steps}
@@ -41,9 +41,11 @@ some_coins c l =
     omega arith
 
 -- the coins before a message, from those before its layer
-pub number_is : (c input cs : List ℕ) (s : Session) → Fitting c input cs s → {k : ℕ} → CoinsBefore c s.layer k
-    → k + s.round ≡ layer_start c s.layer + s.round
-number_is c input cs s h counted = ap (λ (i : ℕ). i + s.round) (counted (own_start_lem c input cs s h))
+pub number_is : (c input cs : List ℕ) (s : Session) → Fitting c input cs s → {here : Place} → here ≡ place s.layer s.round → {k : ℕ}
+    → CoinsBefore c here.layer k → k + here.round ≡ layer_start c s.layer + s.round
+number_is c input cs s h {here} e {k} counted =
+    ap (λ (r : Place). k + r.round) e
+    ∙ ap (λ (i : ℕ). i + s.round) (subst (λ (r : Place). CoinsBefore c r.layer k) e counted (own_start_lem c input cs s h))
 
 module _ (c input cs : List ℕ) (s : Session) (h : Fitting c input cs s) (n : ℕ) (en : n ≡ layer_start c s.layer + s.round) where
   abbrev here : Place
@@ -65,10 +67,10 @@ module _ (c input cs : List ℕ) (s : Session) (h : Fitting c input cs s) (n : �
   pub coins_few : n ≤ max_coins
   coins_few = let inside = coin_in_lem in omega (arith, (in_limits c (legal c input cs s h)).coins)
 
-  pub at_round : AtRound c (place s.layer s.round) (length (take n cs))
-  at_round =
+  pub at_round : {r : Place} → r ≡ here → AtRound c r (length (take n cs))
+  at_round e =
       let counted : length (take n cs) ≡ coins_before c here = length-take-le n cs (let inside = coin_inside in omega arith) ∙ en in
-      subst (AtRound c here) (sym counted) (own c input cs s h).there
+      subst (λ (r : Place). AtRound c r (length (take n cs))) (sym e) (subst (AtRound c here) (sym counted) (own c input cs s h).there)
 
   -- at the last round it is the last coin
   last_coin_lem : is_last c here ≡ true → n + 1 ≡ coin_count c
@@ -121,58 +123,70 @@ module _ (c input cs : List ℕ) (s : Session) (h : Fitting c input cs s) (n : �
         step_is ∙ sym (refused_by (λ j. step_judge (descent c) (input_agrees c input) j (take n cs) coin (record_of s) m)
         (λ j. (refused j, ended (record_of s))) (λ j. refl) k cause (sym e))
 
-    pub refused_open : (k : Cause) → number_of k ≡ cause → (r : Stepped) → verdict_of r.verdict ≡ refused (number_of k)
-        → record_of r.session ≡ ended (record_of s) → StepsOpen c input cs s m r
-    refused_open k e r answer after = record {
-      answer = answer ∙ sym (ap (λ (x : Answer × Record Place). x.0) (step_ends k e));
-      after = after ∙ sym (ap (λ (x : Answer × Record Place). x.1) (step_ends k e));
-    }
+    pub refused_open : (k : Cause) → {here' : Place} → here' ≡ here → number_of k ≡ judge c here' (take n cs) s.claim m → (r : Stepped)
+        → verdict_of r.verdict ≡ refused (number_of k) → record_of r.session ≡ ended (record_of s) → StepsOpen c input cs s m r
+    refused_open k same e' r answer after =
+        let e : number_of k ≡ cause = e' ∙ ap (λ (r : Place). judge c r (take n cs) s.claim m) same in
+        record {
+          answer = answer ∙ sym (ap (λ (x : Answer × Record Place). x.0) (step_ends k e));
+          after = after ∙ sym (ap (λ (x : Answer × Record Place). x.1) (step_ends k e));
+        }
 
-    pub passed_open : cause ≡ 0 → (r : Stepped) → GoesOn c input cs s coin (message_at c m coin) r → StepsOpen c input cs s m r
-    passed_open e r goes = record {
-      answer = goes.answer ∙ sym (ap (λ (x : Answer × Record Place). x.0) (step_goes e));
-      after = goes.after ∙ sym (ap (λ (x : Answer × Record Place). x.1) (step_goes e));
-    }
+    pub passed_open : {here' : Place} → here' ≡ here → judge c here' (take n cs) s.claim m ≡ 0 → (r : Stepped)
+        → GoesOn c input cs s coin (message_at c m coin) r → StepsOpen c input cs s m r
+    passed_open same e' r goes =
+        let e : cause ≡ 0 = ap (λ (r : Place). judge c r (take n cs) s.claim m) (sym same) ∙ e' in
+        record {
+          answer = goes.answer ∙ sym (ap (λ (x : Answer × Record Place). x.0) (step_goes e));
+          after = goes.after ∙ sym (ap (λ (x : Answer × Record Place). x.1) (step_goes e));
+        }
 
--- A STEP, refusal by refusal
+-- 1 TO 9, 11, 12 AND 19, refusal by refusal
+module _ (c input cs : List ℕ) (r : Record Place) where
+  pub record_lists : (k : Cause) → number_of k ≡ lists_cause c input → number_of k ≡ step_cause c input cs r
+  unfolding step_cause
+  record_lists k e = sym (refused_first k (lists_cause c input) _ e)
+
+  pub record_coins : (k : Cause) → CoinsRefused c input cs k → number_of k ≡ step_cause c input cs r
+  unfolding step_cause
+  record_coins k refusal = sym (by_coins c input cs _ k refusal)
+
+  pub record_decides : Admitted c input cs → {fits : Bool} → fits ≡ record_fits c r → need fits 19 0 ≡ step_cause c input cs r
+  unfolding step_cause
+  record_decides a e = ap (λ (b : Bool). need b 19 0) e ∙ sym (by_rest c input cs _ a)
+
+  -- where none of them comes
+  admitted_by : step_cause c input cs r ≡ 0 → Admitted c input cs × (record_fits c r ≡ true)
+  unfolding step_cause
+  admitted_by e =
+      let lists = first_none (lists_cause c input) _ e in
+      let coins = first_none (need_coins c cs 0) _ (coins_more c cs (need (record_fits c r) 19 0) ∙ lists.1) in
+      (record { lists = lists.0; coins = coins.0 }, (need_none (record_fits c r) 18 0 coins.1).0)
+
+-- A STEP
 module _ (c input cs : List ℕ) (s : Session) (m : List ℕ) where
-  left_by : (k : Cause) → step_cause c input cs (record_of s) ≡ number_of k → (r : Stepped) → verdict_of r.verdict ≡ refused (number_of k)
-      → record_of r.session ≡ record_of s → Steps c input cs s m r
+  abbrev cause_left : ℕ
+  cause_left = step_cause c input cs (record_of s)
+
+  pub left_by : (k : Cause) → number_of k ≡ cause_left → (r : Stepped)
+      → (verdict_of r.verdict ≡ refused (number_of k)) × (record_of r.session ≡ record_of s) → Steps c input cs s m r
   unfolding step_answer
-  left_by k e r answer after =
-      let same : (refused (number_of k), record_of s) ≡ step_after (step_cause c input cs (record_of s)) c input cs (record_of s) m =
-      refused_by (λ j. step_after j c input cs (record_of s) m) (λ j. (refused j, record_of s)) (λ j. refl) k (step_cause c input cs (record_of s)) e in
+  left_by k e r says =
+      let same : (refused (number_of k), record_of s) ≡ step_after cause_left c input cs (record_of s) m =
+      refused_by (λ j. step_after j c input cs (record_of s) m) (λ j. (refused j, record_of s)) (λ j. refl) k cause_left (sym e) in
       record {
-        answer = answer ∙ ap (λ (x : Answer × Record Place). x.0) same;
-        after = after ∙ ap (λ (x : Answer × Record Place). x.1) same;
+        answer = says.0 ∙ ap (λ (x : Answer × Record Place). x.0) same;
+        after = says.1 ∙ ap (λ (x : Answer × Record Place). x.1) same;
       }
 
-  module _ (k : Cause) (r : Stepped) (answer : verdict_of r.verdict ≡ refused (number_of k)) (after : record_of r.session ≡ record_of s) where
-    pub left_lists : number_of k ≡ lists_cause c input → Steps c input cs s m r
-    unfolding step_cause
-    left_lists e = left_by k (refused_first k (lists_cause c input) _ e) r answer after
+  pub fitting : cause_left ≡ 0 → Fitting c input cs s
+  fitting e = let free = admitted_by c input cs (record_of s) e in record { given = counted free.0; fits = free.1 }
 
-    pub left_coins : CoinsRefused c input cs k → Steps c input cs s m r
-    unfolding step_cause
-    left_coins refusal = left_by k (by_coins c input cs _ k refusal) r answer after
-
-  module _ (a : Admitted c input cs) where
-    only_record : step_cause c input cs (record_of s) ≡ need (record_fits c (record_of s)) 19 0
-    unfolding step_cause
-    only_record = by_rest c input cs _ a
-
-    pub left_record : (r : Stepped) → verdict_of r.verdict ≡ refused (number_of RecordUnfit) → record_of r.session ≡ record_of s
-        → record_fits c (record_of s) ≡ false → Steps c input cs s m r
-    left_record r answer after e = left_by RecordUnfit (only_record ∙ ap (λ (b : Bool). need b 19 0) e) r answer after
-
-    pub fitting : record_fits c (record_of s) ≡ true → Fitting c input cs s
-    fitting e = record { given = counted a; fits = e }
-
-    pub steps_open : record_fits c (record_of s) ≡ true → (r : Stepped) → StepsOpen c input cs s m r → Steps c input cs s m r
-    unfolding step_answer
-    steps_open e r o =
-        let same = ap (λ (j : ℕ). step_after j c input cs (record_of s) m) (only_record ∙ ap (λ (b : Bool). need b 19 0) e) in
-        record {
-          answer = o.answer ∙ sym (ap (λ (x : Answer × Record Place). x.0) same);
-          after = o.after ∙ sym (ap (λ (x : Answer × Record Place). x.1) same);
-        }
+  pub steps_open : cause_left ≡ 0 → (r : Stepped) → StepsOpen c input cs s m r → Steps c input cs s m r
+  unfolding step_answer
+  steps_open e r o =
+      let same = ap (λ (j : ℕ). step_after j c input cs (record_of s) m) e in
+      record {
+        answer = o.answer ∙ sym (ap (λ (x : Answer × Record Place). x.0) same);
+        after = o.after ∙ sym (ap (λ (x : Answer × Record Place). x.1) same);
+      }

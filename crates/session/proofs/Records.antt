@@ -6,9 +6,9 @@ use mathlib.Core.Bool.{Bool, true, false, ◌&&◌, cond}
 use mathlib.Core.List.{List}
 use native.Mathlib.Numerals.{add-one}
 use native.Mathlib.Omega.{arith}
-use lib.Dec.{ltb, leb, eqb}
+use lib.Dec.{leb, eqb}
 use lib.ListN.{length}
-use borrow.Author.Tests.{le-leb, lt-leb, leb-true, ltb-true, eq-eqb, ne_eqb}
+use borrow.Author.Tests.{leb-true, ltb-true, eq-eqb, ne_eqb}
 use Rattle.circuit.specs.Limits.{max_exponent}
 use Rattle.circuit.specs.Circuit.{prime_of, depth, exponents, exponent_at}
 use Rattle.circuit.specs.Sized.{LayerOf, LegalCircuit}
@@ -24,34 +24,6 @@ use Rattle.session.specs.declared.Stepped.{Stepped}
 use Rattle.standing.specs.Standing.{LayerSoFar}
 
 module _ (c : List ℕ) (h : LegalCircuit c) (s : Record Place) where
-  pub fits_closed : s.opened ≡ false → false ≡ record_fits c s
-  unfolding record_fits
-  fits_closed o = rw o refl
-
-  module _ (o : s.opened ≡ true) where
-    pub fits_low : s.round.layer < 1 → false ≡ record_fits c s
-    unfolding record_fits
-    fits_low l = rw (o, lt-leb 1 s.round.layer l) refl
-
-    module _ (low : 1 ≤ s.round.layer) where
-      pub fits_deep : depth c < s.round.layer → false ≡ record_fits c s
-      unfolding record_fits
-      fits_deep l = rw (o, le-leb 1 s.round.layer low, lt-leb s.round.layer (length (exponents c)) (omega (arith, deep c h))) refl
-
-      module _ (inside : s.round.layer ≤ depth c) where
-        pub layer_in : LayerOf c s.round.layer
-        layer_in = layer_of c h s.round.layer inside
-
-        round_decides : (leb s.round.round (2 * exponent_at c s.round.layer) && ltb s.claim (prime_of c)) ≡ record_fits c s
-        unfolding record_fits
-        round_decides = rw (o, le-leb 1 s.round.layer low, le-leb s.round.layer (length (exponents c)) (omega (arith, deep c h))) refl
-
-        pub fits_far : 2 * exponent_at c s.round.layer < s.round.round → false ≡ record_fits c s
-        fits_far l = rw (lt-leb s.round.round (2 * exponent_at c s.round.layer) l) at round_decides
-
-        pub fits_claim : s.round.round ≤ 2 * exponent_at c s.round.layer → ltb s.claim (prime_of c) ≡ record_fits c s
-        fits_claim l = rw (le-leb s.round.round (2 * exponent_at c s.round.layer) l) at round_decides
-
   -- what a fitting record says
   pub record Fit : Type 0 where
     pub opened : s.opened ≡ true
@@ -106,12 +78,23 @@ module _ (c input cs : List ℕ) (s : Session) (h : Fitting c input cs s) where
       after = after ∙ ap (λ (x : Bool). (goes_on c input cs s coin y x).1) (sym e);
     }
 
-    pub goes_layer : is_line c (place s.layer s.round) ≡ true → s.layer < depth c → (r : Stepped) → verdict_of r.verdict ≡ going_on coin
-        → record_of r.session ≡ at (place (s.layer + 1) 0) y → GoesOn c input cs s coin y r
-    goes_layer e more r answer after =
+    -- the record at another place, with the new claim
+    abbrev moved : Place → Bool → Record Place
+    moved r opened = record { round = r; claim = y; opened = opened }
+
+    pub goes_round : is_line c (place s.layer s.round) ≡ false → (r : Stepped)
+        → (verdict_of r.verdict ≡ going_on coin) × (record_of r.session ≡ moved (place s.layer (s.round + 1)) s.open) → GoesOn c input cs s coin y r
+    goes_round e r says =
+        goes false (ap (λ (b : Bool). b && eqb s.layer (length (exponents c))) e) r says.0
+        (says.1 ∙ ap (moved (place s.layer (s.round + 1))) own.opened ∙ ap (λ (j : ℕ). at (place s.layer j) y) (add-one s.round)
+        ∙ ap (λ (b : Bool). at (cond b (place (suc s.layer) 0) (place s.layer (suc s.round))) y) (sym e))
+
+    pub goes_layer : is_line c (place s.layer s.round) ≡ true → s.layer < depth c → (r : Stepped)
+        → (verdict_of r.verdict ≡ going_on coin) × (record_of r.session ≡ moved (place (s.layer + 1) 0) s.open) → GoesOn c input cs s coin y r
+    goes_layer e more r says =
         let ne : ¬ (s.layer ≡ length (exponents c)) = λ (q : s.layer ≡ length (exponents c)). omega (arith, q, more, deep c legal) in
-        goes false (ap (λ (b : Bool). b && eqb s.layer (length (exponents c))) e ∙ ne_eqb s.layer (length (exponents c)) ne) r answer
-        (after ∙ ap (λ (i : ℕ). at (place i 0) y) (add-one s.layer)
+        goes false (ap (λ (b : Bool). b && eqb s.layer (length (exponents c))) e ∙ ne_eqb s.layer (length (exponents c)) ne) r says.0
+        (says.1 ∙ ap (moved (place (s.layer + 1) 0)) own.opened ∙ ap (λ (i : ℕ). at (place i 0) y) (add-one s.layer)
         ∙ ap (λ (b : Bool). at (cond b (place (suc s.layer) 0) (place s.layer (suc s.round))) y) (sym e))
 
     -- the last comparison ends the session, whatever it says

@@ -1,7 +1,8 @@
 -- The answers of opening and step, by the case of the code's enums.
 -- Assumes nothing.
-use Rattle.std.specs.Prelude.{ℕ, ◌≡◌, Bool, true, false, List}
+use Rattle.std.specs.Prelude.{ℕ, ◌≡◌, Bool, true, false, List, Result, Ok, Err}
 use Rattle.refusal.specs.Number.{number_of}
+use Rattle.refusal.specs.declared.Cause.{Cause}
 use Rattle.walk.specs.Session.{Answer, accepted, going_on, refused, Record, at, step_final, step}
 use Rattle.protocol.specs.Rounds.{Place, place, place_after, is_last}
 use Rattle.protocol.specs.Judge.{input_agrees, descent}
@@ -10,8 +11,6 @@ use Rattle.protocol.specs.Session.{OpenAnswer, opens, refuses, record_fits, step
 use Rattle.session.specs.declared.Verdict.{Verdict}
 use Rattle.session.specs.declared.Verdict.TheVariants as verdict
 use Rattle.session.specs.declared.Session.{Session}
-use Rattle.session.specs.declared.Opening.{Opening}
-use Rattle.session.specs.declared.Opening.TheVariants as opening
 use Rattle.session.specs.declared.Stepped.{Stepped}
 
 -- a session's record, as the definitions have it
@@ -19,9 +18,9 @@ abbrev pub record_of : Session → Record Place
 record_of s = record { round = place s.layer s.round; claim = s.claim; opened = s.open }
 
 -- OPEN: the record, or a refusal's number
-abbrev pub opening_of : Opening → OpenAnswer
-opening_of (opening.Opened s) = opens (record_of s)
-opening_of (opening.Refused cause) = refuses (number_of cause)
+abbrev pub opening_of : Result Session Cause → OpenAnswer
+opening_of (Ok s) = opens (record_of s)
+opening_of (Err cause) = refuses (number_of cause)
 
 -- STEP: the answer, and the record after it
 abbrev pub verdict_of : Verdict → Answer

@@ -2,26 +2,28 @@
 #![tactic(auto)]
 
 ghost use Rattle.std.specs.Prelude.{◌≡◌};
-ghost use Rattle.refusal.specs.Number.{number_of};
+ghost use Rattle.refusal.specs.Number.{number_of, cause_of};
 ghost use Rattle.circuit.specs.Sized.{LegalCircuit};
-ghost use Rattle.walk.specs.Session.{going_on, refused, at, ended};
-ghost use Rattle.protocol.specs.Session.{open_answer, record_fits};
-ghost use Rattle.protocol.specs.Rounds.{place};
+ghost use Rattle.walk.specs.Session.{going_on, refused, ended};
+ghost use Rattle.protocol.specs.Session.{open_answer, record_fits, step_cause};
+ghost use Rattle.standing.specs.Standing.{as_place};
 ghost use Rattle.session.specs.Answers.{record_of, opening_of, verdict_of, Fitting, GoesOn, StepsOpen, Steps};
 
 use field::Field;
 use refusal::Cause;
+use standing::Place;
 
 // What a step answers.
-#[derive(Clone, Copy)]
+#[derive(Clone, Copy, PartialEq, Eq, Debug)]
 pub enum Verdict {
     Accepted,
     GoOn(u32),
     Refused(Cause),
 }
 
-// A session's record: the place of the next message, the standing claim, and whether the session is open.
-#[derive(Clone, Copy)]
+// A session's record: the place of the next message, the standing claim, and whether the session is open. The figures stay after its end, so a
+// flag beside them says that.
+#[derive(Clone, Copy, PartialEq, Eq, Debug)]
 pub struct Session {
     pub layer: u32,
     pub round: u32,
@@ -29,36 +31,59 @@ pub struct Session {
     pub open: bool,
 }
 
-// What an opening answers.
-#[derive(Clone, Copy)]
-pub enum Opening {
-    Opened(Session),
-    Refused(Cause),
-}
-
 // A step's answer and the record after it.
-#[derive(Clone, Copy)]
+#[derive(Clone, Copy, PartialEq, Eq, Debug)]
 pub struct Stepped {
     pub verdict: Verdict,
     pub session: Session,
 }
 
+impl Session {
+    // The place of its next message.
+    fn place(self) -> Place
+        ensures { as_place result ≡ (record_of self).round }
+    {
+        Place {
+            layer: self.layer as usize,
+            round: self.round as usize,
+        }
+    }
+
+    // Whether it is open and fits the circuit.
+    #[tactic(auto, unfolding(protocol::specs::Session::record_fits), using(circuit::proofs::Sized::deep))]
+    fn fits(self, circuit: &[u32]) -> bool
+        requires { LegalCircuit circuit.now }
+        ensures { result ≡ record_fits circuit.now (record_of self) }
+    {
+        let Place { layer, round } = self.place();
+        self.open
+            && 1 <= layer
+            && layer <= layout::depth(circuit)
+            && round <= 2 * layout::exponent(circuit, layer) as usize
+            && self.claim < layout::prime(circuit)
+    }
+
+    // Its end: the figures stay.
+    fn ended(self) -> Session
+        ensures { record_of result ≡ ended (record_of self) }
+    {
+        Session {
+            open: false,
+            ..self
+        }
+    }
+}
+
 // Open session: 1 to 9, 13, 11, 12; then layer 1, round 0, and the output as the claim.
-pub fn open(circuit: &[u32], input: &[u32], output: u32, coins: &[u32]) -> Opening
+pub fn open(circuit: &[u32], input: &[u32], output: u32, coins: &[u32]) -> Result<Session, Cause>
     ensures { opening_of result ≡ open_answer circuit.now input.now output coins.now }
 {
-    let lists = legality::check_lists(circuit, input);
-    if let Err(cause) = lists {
-        return Opening::Refused(cause);
-    }
+    legality::check_lists(circuit, input)?;
     if layout::prime(circuit) <= output {
-        return Opening::Refused(Cause::OutputWord);
+        return Err(Cause::OutputWord);
     }
-    let taken = standing::check_coins(circuit, coins);
-    if let Err(cause) = taken {
-        return Opening::Refused(cause);
-    }
-    Opening::Opened(Session {
+    standing::check_coins(circuit, coins)?;
+    Ok(Session {
         layer: 1,
         round: 0,
         claim: output,
@@ -66,28 +91,8 @@ pub fn open(circuit: &[u32], input: &[u32], output: u32, coins: &[u32]) -> Openi
     })
 }
 
-// Whether a record is open and fits the circuit.
-fn fits(circuit: &[u32], session: Session) -> bool
-    requires { LegalCircuit circuit.now }
-    ensures { result ≡ record_fits circuit.now (record_of session) }
-{
-    if !session.open {
-        return false;
-    }
-    if session.layer < 1 {
-        return false;
-    }
-    if layout::depth(circuit) < session.layer as usize {
-        return false;
-    }
-    if 2 * layout::exponent(circuit, session.layer as usize) < session.round {
-        return false;
-    }
-    session.claim < layout::prime(circuit)
-}
-
-// A refusal that leaves the record.
-fn left(session: Session, cause: Cause) -> Stepped
+// A refusal, and the record that it leaves.
+fn refusal(cause: Cause, session: Session) -> Stepped
     ensures { (verdict_of result.verdict ≡ refused (number_of cause)) × (record_of result.session ≡ record_of session) }
 {
     Stepped {
@@ -96,30 +101,13 @@ fn left(session: Session, cause: Cause) -> Stepped
     }
 }
 
-// The end of a session: its figures stay.
-fn ended(session: Session) -> Session
-    ensures { record_of result ≡ ended (record_of session) }
-{
-    Session {
-        layer: session.layer,
-        round: session.round,
-        claim: session.claim,
-        open: false,
-    }
-}
-
 // A step to the next round, with the coin that it hands out.
-fn went_on(layer: u32, round: u32, coin: u32, claim: u32) -> Stepped
-    ensures { (verdict_of result.verdict ≡ going_on coin) × (record_of result.session ≡ at (place layer round) claim) }
+fn went_on(next: Session, coin: u32) -> Stepped
+    ensures { (verdict_of result.verdict ≡ going_on coin) × (record_of result.session ≡ record_of next) }
 {
     Stepped {
         verdict: Verdict::GoOn(coin),
-        session: Session {
-            layer,
-            round,
-            claim,
-            open: true,
-        },
+        session: next,
     }
 }
 
@@ -135,23 +123,34 @@ fn go_on(
     requires { Fitting circuit.now input.now coins.now session }
     ensures { GoesOn circuit.now input.now coins.now session coin claim result }
 {
-    if !standing::is_line(circuit, session.layer as usize, session.round as usize) {
-        let round = session.round + 1;
-        return went_on(session.layer, round, coin, claim);
+    let place = session.place();
+    if !place.is_line(circuit) {
+        return went_on(
+            Session {
+                round: session.round + 1,
+                claim,
+                ..session
+            },
+            coin,
+        );
     }
-    if (session.layer as usize) < layout::depth(circuit) {
-        let layer = session.layer + 1;
-        return went_on(layer, 0, coin, claim);
+    if place.layer < layout::depth(circuit) {
+        return went_on(
+            Session {
+                layer: session.layer + 1,
+                round: 0,
+                claim,
+                ..session
+            },
+            coin,
+        );
     }
-    let closed = ended(session);
-    if judgement::input_agrees(circuit, input, coins, claim) {
-        return Stepped {
-            verdict: Verdict::Accepted,
-            session: closed,
-        };
+    let closed = session.ended();
+    if !judgement::input_agrees(circuit, input, coins, claim) {
+        return refusal(Cause::InputDiffers, closed);
     }
     Stepped {
-        verdict: Verdict::Refused(Cause::InputDiffers),
+        verdict: Verdict::Accepted,
         session: closed,
     }
 }
@@ -167,22 +166,35 @@ fn step_open(
     requires { Fitting circuit.now input.now coins.now session }
     ensures { StepsOpen circuit.now input.now coins.now session message.now result }
 {
-    let layer = session.layer as usize;
-    let round = session.round as usize;
-    let n = standing::coins_before(circuit, layer) + round;
-    let judged = judgement::judge(circuit, layer, round, &coins[..n], session.claim, message);
+    let place = session.place();
+    let n = standing::coins_before(circuit, place.layer) + place.round;
+    let judged = judgement::judge(circuit, place, &coins[..n], session.claim, message);
     if let Err(cause) = judged {
-        return Stepped {
-            verdict: Verdict::Refused(cause),
-            session: ended(session),
-        };
+        return refusal(cause, session.ended());
     }
     let coin = coins[n];
     let claim = polynomial::value_at(Field::of(layout::prime(circuit)), message, coin);
     go_on(circuit, input, coins, session, coin, claim)
 }
 
-// Step: 1 to 9, 11, 12 and 19 leave the record; then the message is judged.
+// The refusals that leave the record: 1 to 9, 11, 12 and 19.
+fn check_record(
+    circuit: &[u32],
+    input: &[u32],
+    coins: &[u32],
+    session: Session,
+) -> Result<(), Cause>
+    ensures { cause_of result ≡ step_cause circuit.now input.now coins.now (record_of session) }
+{
+    legality::check_lists(circuit, input)?;
+    standing::check_coins(circuit, coins)?;
+    if !session.fits(circuit) {
+        return Err(Cause::RecordUnfit);
+    }
+    Ok(())
+}
+
+// Step: what leaves the record comes first; then the message is judged.
 pub fn step(
     circuit: &[u32],
     input: &[u32],
@@ -192,16 +204,9 @@ pub fn step(
 ) -> Stepped
     ensures { Steps circuit.now input.now coins.now session message.now result }
 {
-    let lists = legality::check_lists(circuit, input);
-    if let Err(cause) = lists {
-        return left(session, cause);
+    let checked = check_record(circuit, input, coins, session);
+    match checked {
+        Ok(()) => step_open(circuit, input, coins, session, message),
+        Err(cause) => refusal(cause, session),
     }
-    let taken = standing::check_coins(circuit, coins);
-    if let Err(cause) = taken {
-        return left(session, cause);
-    }
-    if !fits(circuit, session) {
-        return left(session, Cause::RecordUnfit);
-    }
-    step_open(circuit, input, coins, session, message)
 }

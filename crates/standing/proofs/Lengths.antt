@@ -9,9 +9,9 @@ use Rattle.protocol.specs.Rounds.{Place, is_line}
 use Rattle.protocol.specs.Judge.{message_length}
 
 module _ (c : List ℕ) (r : Place) where
-  pub length_of_line : is_line c r ≡ true → exponent_at c r.layer + 1 ≡ message_length c r
+  pub length_of_line : (k : ℕ) → k ≡ exponent_at c r.layer → is_line c r ≡ true → k + 1 ≡ message_length c r
   unfolding message_length
-  length_of_line e = rw e refl
+  length_of_line k own e = rw (own, e) refl
 
   pub length_of_sum : is_line c r ≡ false → 3 ≡ message_length c r
   unfolding message_length

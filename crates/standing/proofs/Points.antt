@@ -14,10 +14,8 @@ use Rattle.extension.specs.Limits.{row_length}
 use Rattle.circuit.specs.Circuit.{prime_of, depth, output_exponent, exponent_at}
 use Rattle.circuit.proofs.Sized.{one_output, deep, exponent_small}
 use Rattle.sumcheck.specs.Summand.{line_point}
-use Rattle.sumcheck.proofs.Message.{length_line}
 use Rattle.sumcheck.proofs.Words.{line_point_length}
 use Rattle.summand.proofs.Line.{take_line}
-use Rattle.protocol.specs.Start.{first_point}
 use Rattle.protocol.specs.Rounds.{layer_start}
 use Rattle.protocol.specs.Judge.{line_end, point_at}
 use Rattle.protocol.proofs.Points.{start_next}
@@ -102,18 +100,14 @@ module _ (c : List ℕ) (l : ℕ) (past : List ℕ) (h : AtLayer c (suc (suc l))
         let place : last_coin past ≡ s + 2 * K = omega arith in
         ap (λ (i : ℕ). get_or past i 0) place ∙ sym (get_or-drop s past (2 * K) 0)
 
-    line_row : (u v r : List ℕ) → LineRows (prime_of c) past k u v r → Row (point_at c (suc (suc l)) past) r
+    line_row : (u v r : List ℕ) → LineRows (prime_of c) past k u v r → take k r ≡ point_at c (suc (suc l)) past
     line_row u v r rows =
         let N = words (prime_of c) in
         let t : ℕ = get_or past (last_coin past) 0 in
         let front-u : take K u ≡ take K cs = front_take (row_whole first_there (rw first_long fits) rows.first) K (sym first_long) in
         let front-v : take K v ≡ take K (drop K cs) = front_take (row_whole second_there (rw second_long fits) rows.second) K (sym second_long) in
-        record {
-          size = ap length rows.point ∙ length_line N row_length u v t rows.first.size rows.second.size;
-          holds =
-              ap₂ take above_length rows.point ∙ take_line N K u v t ∙ ap₂ (λ (a b : List ℕ). line_point N a b t) front-u front-v
-              ∙ ap (line_point N (take K cs) (take K (drop K cs))) last_there ∙ sym point_own;
-        }
+        ap₂ take ek rows.point ∙ take_line N K u v t ∙ ap₂ (λ (a b : List ℕ). line_point N a b t) front-u front-v
+        ∙ ap (line_point N (take K cs) (take K (drop K cs))) last_there ∙ sym point_own
 
 -- the same, of a layer that is not the first
 module _ (c : List ℕ) (past : List ℕ) where
@@ -128,12 +122,14 @@ module _ (c : List ℕ) (past : List ℕ) where
   standing_enough layer k h ne ek = omega (arith, ek, standing_coins layer h ne)
 
   pub standing_row : (layer k : ℕ) (u v r : List ℕ) → AtLayer c layer (length past) → 2 ≤ layer → k ≡ exponent_at c (layer - 1)
-      → LineRows (prime_of c) past k u v r → Row (point_at c layer past) r
+      → LineRows (prime_of c) past k u v r → take (min k row_length) r ≡ point_at c layer past
   standing_row zero k u v r h ne ek rows = absurd (let low : 1 ≤ 0 = h.there.first in omega arith)
   standing_row (suc zero) k u v r h ne ek rows = absurd (omega arith)
   standing_row (suc (suc l)) k u v r h ne ek rows =
       let e : suc (suc l) - 1 ≡ suc l = omega arith in
-      line_row c l past h k (ek ∙ ap (exponent_at c) e) u v r rows
+      let own : k ≡ exponent_at c (suc l) = ek ∙ ap (exponent_at c) e in
+      let small = fits c l past h in
+      ap (λ (n : ℕ). take n r) (omega (arith, own, small)) ∙ line_row c l past h k own u v r rows
 
   first_length : AtLayer c 1 (length past) → length (point_at c 1 past) ≡ exponent_at c 0
   first_length h = length-take-le (output_exponent c) past (omega (arith, h.counted, sum_nil))
@@ -144,15 +140,15 @@ module _ (c : List ℕ) (past : List ℕ) where
   point_length (suc (suc l)) h = let e : suc (suc l) - 1 ≡ suc l = omega arith in above_length c l past h ∙ ap (exponent_at c) (sym e)
 
   -- at layer 1 the coins so far are the first point
-  pub first_row : (layer : ℕ) (r : List ℕ) → AtLayer c layer (length past) → layer < 2 → Row (take row_length past) r → Row (point_at c layer past) r
-  first_row layer r h low row =
+  pub first_row : (layer : ℕ) → AtLayer c layer (length past) → layer < 2 → take row_length past ≡ point_at c layer past
+  first_row layer h low =
       let some : 1 ≤ layer = h.there.first in
       let e : 1 ≡ layer = omega arith in
       let counted : length past ≡ layer_start c layer = h.counted in
       let few : length past ≡ output_exponent c = counted ∙ ap (layer_start c) (sym e) ∙ omega (arith, sum_nil) in
-      let whole : past ≡ first_point c past = sym (take_all (output_exponent c) past (omega arith)) in
-      let small : length (first_point c past) ≤ row_length = omega (arith, ap length whole, few, one_output c) in
-      subst (λ (i : ℕ). Row (point_at c i past) r) e (row_whole whole small row)
+      let none = one_output c in
+      take_all row_length past (omega (arith, few, none)) ∙ sym (take_all (output_exponent c) past (omega arith))
+      ∙ ap (λ (i : ℕ). point_at c i past) e
 
 -- the lesser of a list's length and k takes as many words as k
 pub least_front : (k : ℕ) (l : List ℕ) (r : ℕ) → r ≡ min (length l) k → take r l ≡ take k l

@@ -1,12 +1,11 @@
 -- What stands at a round: the last coins, as many as the round says, are the layer's own, and those before them give the standing point.
 -- Assumes nothing.
-use Prim.Native.Nat.{ℕ, zero, suc, ◌+◌, ◌-◌, ◌*◌, ◌/◌, ◌^◌, ◌≤◌, min}
-use mathlib.Core.Path.{◌≡◌, refl, sym, ap, ap₂, ◌∙◌, subst}
-use mathlib.Core.List.{List}
+use Prim.Native.Nat.{ℕ, zero, suc, ◌-◌, ◌*◌, ◌/◌, ◌^◌, ◌≤◌, min}
+use mathlib.Core.Path.{◌≡◌, refl, sym, ap, ◌∙◌}
+use mathlib.Core.List.{List, []}
 use native.Mathlib.Omega.{arith}
-use lib.ListN.{length, length-drop, length-take, take, drop, take-append-drop}
-use lib.Seq.{drop-drop, length-take-le}
-use Rattle.lists.proofs.Front.{front_take}
+use lib.ListN.{length, length-drop, length-take, take, drop, get_or, take-append-drop}
+use lib.Seq.{length-take-le}
 use Rattle.extension.specs.Limits.{row_length}
 use Rattle.circuit.specs.Limits.{max_exponent}
 use Rattle.circuit.specs.Circuit.{depth, exponents, exponent_at, gates_of, gates_at}
@@ -17,7 +16,7 @@ use Rattle.summand.specs.Gates.{gates_in}
 use Rattle.protocol.specs.Rounds.{place, layer_start, AtRound}
 use Rattle.protocol.specs.Judge.{fixed, point_at, gates_above}
 use Rattle.protocol.proofs.Points.{point_more}
-use Rattle.standing.specs.Standing.{AtLayer, Row, Within, Stands, PointStands}
+use Rattle.standing.specs.Standing.{AtLayer, Row, Stands, PointStands}
 use Rattle.standing.specs.declared.Stand.{Stand}
 use Rattle.standing.proofs.Points.{least_front, least_rest, row_whole, point_length}
 
@@ -28,15 +27,10 @@ own_start round past = length past - round
 -- a stand as the code makes it, its numbers cut to a row's length: of the layer's own coins the first n are u's, the others v's
 pub record Cut (c : List ℕ) (layer round : ℕ) (past : List ℕ) (n : ℕ) (s : Stand) : Type 0 where
   pub own : s.own ≡ min (exponent_at c layer) row_length
-  pub above : s.above ≡ min (exponent_at c (layer - 1)) row_length
   pub fewer : n ≡ min round s.own
-  pub first : Row (take row_length (take (own_start round past + n - own_start round past) (drop (own_start round past) past))) s.u
-  pub second : Row (take row_length (drop (own_start round past + n) past)) s.v
+  pub first : Row (take row_length (take n (drop (own_start round past) past))) (get_or s.points 0 [])
+  pub second : Row (take row_length (drop n (drop (own_start round past) past))) (get_or s.points 1 [])
   pub point : PointStands c layer (take (own_start round past) past) s.point
-
--- nothing stands where there is no such round
-pub nothing_within : (s : Stand) → (s.above ≡ 0) × (s.own ≡ 0) → Within s
-nothing_within s none = record { above = omega (arith, none.0); own = omega (arith, none.1) }
 
 module _ (c : List ℕ) (layer round : ℕ) (past : List ℕ) (h : AtRound c (place layer round) (length past)) where
   pub own_layer : LayerOf c layer
@@ -82,11 +76,6 @@ module _ (c : List ℕ) (layer round : ℕ) (past : List ℕ) (h : AtRound c (pl
       go zero low = absurd (omega arith)
       go (suc i) low = let same : suc i - 1 ≡ i = omega arith in ap (gates_at c) same
 
-  -- the rows' coordinates, and that they are there
-  module _ (s : Stand) (t : Stands c layer past s) where
-    pub above_point : take s.above s.point ≡ point_at c layer past
-    above_point = front_take t.point s.above (t.above ∙ sym point_size)
-
   module _ (s : Stand) (first : ℕ) (read : Cut c layer round past first s) where
     pub stands : Stands c layer past s
     stands =
@@ -98,21 +87,16 @@ module _ (c : List ℕ) (layer round : ℕ) (past : List ℕ) (h : AtRound c (pl
         let k : ℕ = exponent_at c layer in
         let small : k ≤ row_length = let few = own_small in omega arith in
         let ek : s.own ≡ k = omega (arith, read.own) in
-        let wide : exponent_at c (layer - 1) ≤ max_exponent = exponent_small c (layer - 1) above_layer in
-        let ea : s.above ≡ exponent_at c (layer - 1) = omega (arith, read.above) in
         let reached : round ≤ 2 * k = h.reached in
         let size : length xs ≡ round = own_coins in
         let fewer = read.fewer ∙ ap (λ (n : ℕ). min n s.own) (sym size) in
-        let cut : start + first - start ≡ first = omega arith in
-        let eu : take (start + first - start) (drop start past) ≡ take k xs =
-        ap₂ (λ (n i : ℕ). take n (drop i past)) cut at ∙ least_front s.own xs first fewer ∙ ap (λ (n : ℕ). take n xs) ek in
-        let ev : drop (start + first) past ≡ drop k xs =
-        ap (λ (i : ℕ). drop (i + first) past) at ∙ sym (drop-drop first (layer_start c layer) past) ∙ least_rest s.own xs first fewer
-        ∙ ap (λ (n : ℕ). drop n xs) ek in
+        let eu : take first (drop start past) ≡ take k xs =
+        ap (λ (i : ℕ). take first (drop i past)) at ∙ least_front s.own xs first fewer ∙ ap (λ (n : ℕ). take n xs) ek in
+        let ev : drop first (drop start past) ≡ drop k xs =
+        ap (λ (i : ℕ). drop first (drop i past)) at ∙ least_rest s.own xs first fewer ∙ ap (λ (n : ℕ). drop n xs) ek in
         record {
-          above = ea;
           own = ek;
-          point = subst (λ (z : List ℕ). Row z s.point) (ap (λ (i : ℕ). point_at c layer (take i past)) at ∙ same_point) (read.point (at_layer start at));
+          point = read.point (at_layer start at) ∙ ap (λ (i : ℕ). point_at c layer (take i past)) at ∙ same_point;
           first = row_whole eu (omega (arith, length-take k xs)) read.first;
           second = row_whole ev (omega (arith, length-drop k xs)) read.second;
         }

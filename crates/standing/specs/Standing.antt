@@ -1,17 +1,23 @@
 -- Where a walk stands: conditions on a place and the coins before it, and what stands there.
 -- Assumes nothing.
-use Rattle.std.specs.Prelude.{ℕ, ◌+◌, ◌-◌, ◌*◌, ◌≤◌, ◌≡◌, ⊤, List, Result, map, length, take, drop}
+use Rattle.std.specs.Prelude.{ℕ, ◌+◌, ◌*◌, ◌≤◌, ◌≡◌, ⊤, List, Result, [], map, length, take, drop, get_or}
 use Rattle.lists.specs.Count.{sum}
 use Rattle.lists.specs.Front.{Front}
 use Rattle.extension.specs.Limits.{row_length}
 use Rattle.refusal.specs.Number.{cause_of}
 use Rattle.refusal.specs.declared.Cause.{Cause}
-use Rattle.circuit.specs.Circuit.{depth, exponents, exponent_at, coin_count, message_words}
+use Rattle.circuit.specs.Circuit.{depth, exponent_at, coin_count, message_words}
 use Rattle.circuit.specs.Sized.{LegalCircuit}
+use Rattle.protocol.specs.Rounds as walk
 use Rattle.protocol.specs.Rounds.{place, layer_start, AtRound}
 use Rattle.protocol.specs.Judge.{fixed, point_at}
 use Rattle.protocol.specs.Check.{need_coins}
+use Rattle.standing.specs.declared.Place.{Place}
 use Rattle.standing.specs.declared.Stand.{Stand}
+
+-- a place of the walk, as the definitions have it
+abbrev pub as_place : Place → walk.Place
+as_place r = place r.layer r.round
 
 -- a layer that a claim can stand at; D + 1 is behind the last
 pub record LayerSoFar (c : List ℕ) (layer : ℕ) : Type 0 where
@@ -28,17 +34,13 @@ pub record AtLayer (c : List ℕ) (layer n : ℕ) : Type 0 where
 abbrev pub Row : List ℕ → List ℕ → Type 0
 Row point row = Front row_length point row
 
--- a row holds the point that stands at a layer, after the coins before it
+-- a point is the one that stands at a layer, after the coins before it
 abbrev pub PointStands : List ℕ → ℕ → List ℕ → List ℕ → Type 0
-PointStands c layer past row = AtLayer c layer (length past) → Row (point_at c layer past) row
+PointStands c layer past point = AtLayer c layer (length past) → point ≡ point_at c layer past
 
 -- the sum of a × k + 1 over exponents: of coins with 2 for a, of message words with 7
 abbrev pub layer_sum : ℕ → List ℕ → ℕ
 layer_sum a ks = sum (map (λ k. a * k + 1) ks)
-
--- a first number and that sum, over the layers before one
-abbrev pub SumBefore : List ℕ → ℕ → ℕ → ℕ → ℕ → Type 0
-SumBefore c first a layer n = LayerSoFar c layer → n ≡ first + layer_sum a (take (layer - 1) (exponents c))
 
 -- the coins before a layer; the coins of a circuit, and its message words
 abbrev pub CoinsBefore : List ℕ → ℕ → ℕ → Type 0
@@ -54,20 +56,14 @@ WordsOf c n = LegalCircuit c → n ≡ message_words c
 abbrev pub ChecksCoins : List ℕ → List ℕ → Result ⊤ Cause → Type 0
 ChecksCoins c coins r = LegalCircuit c → cause_of r ≡ need_coins c coins 0
 
--- a stand's exponents are no more than a row holds
-pub record Within (s : Stand) : Type 0 where
-  pub above : s.above ≤ row_length
-  pub own : s.own ≤ row_length
-
 -- what stands at a round
 pub record Stands (c : List ℕ) (layer : ℕ) (past : List ℕ) (s : Stand) : Type 0 where
-  pub above : s.above ≡ exponent_at c (layer - 1)
   pub own : s.own ≡ exponent_at c layer
-  pub point : Row (point_at c layer past) s.point
-  pub first : Row (take (exponent_at c layer) (fixed c layer past)) s.u
-  pub second : Row (drop (exponent_at c layer) (fixed c layer past)) s.v
+  pub point : s.point ≡ point_at c layer past
+  pub first : Row (take (exponent_at c layer) (fixed c layer past)) (get_or s.points 0 [])
+  pub second : Row (drop (exponent_at c layer) (fixed c layer past)) (get_or s.points 1 [])
 
 -- what `at_round` says of any list and place, and of a round
-pub record StandsAt (c : List ℕ) (layer round : ℕ) (past : List ℕ) (s : Stand) : Type 0 where
-  pub within : Within s
-  pub stands : AtRound c (place layer round) (length past) → Stands c layer past s
+pub record StandsAt (c : List ℕ) (r : walk.Place) (past : List ℕ) (s : Stand) : Type 0 where
+  pub within : s.own ≤ row_length
+  pub stands : AtRound c r (length past) → Stands c r.layer past s

@@ -2,73 +2,88 @@
 // is total; some promise nothing where the list is no legal circuit or the coins are not those before the place.
 #![tactic(auto)]
 
-ghost use Rattle.std.specs.Prelude.{◌≡◌, ◌≤◌, take};
+ghost use Rattle.std.specs.Prelude.{◌≡◌, ◌≤◌, ◌-◌, length, take};
 ghost use Rattle.extension.specs.Limits.{row_length};
-ghost use Rattle.protocol.specs.Rounds.{place, is_line};
+ghost use Rattle.circuit.specs.Limits.{max_depth};
+ghost use Rattle.circuit.specs.Circuit.{exponents};
+ghost use Rattle.protocol.specs.Rounds.{is_line};
 ghost use Rattle.protocol.specs.Judge.{message_length};
-ghost use Rattle.standing.specs.Standing.{Row, PointStands, SumBefore, CoinsBefore, CoinsOf, WordsOf, ChecksCoins, StandsAt};
+ghost use Rattle.standing.specs.Standing.{as_place, Row, PointStands, LayerSoFar, layer_sum, CoinsBefore, CoinsOf, WordsOf, ChecksCoins, StandsAt};
 
 use extension::MAX_COORDINATES;
 use field::Field;
 use layout::MAX_DEPTH;
 use refusal::Cause;
+use std::marker::Model;
 
-// Whether a round is its layer's line.
-pub fn is_line(circuit: &[u32], layer: usize, round: usize) -> bool
-    ensures { result ≡ is_line circuit.now (place layer round) }
-{
-    round == 2 * layout::exponent(circuit, layer) as usize
+// A place of a walk: the layer from 1 on, the round from 0 on. Whether a circuit has such a round is for each function to say.
+#[derive(Clone, Copy, PartialEq, Eq, Debug)]
+pub struct Place {
+    pub layer: usize,
+    pub round: usize,
 }
 
-// The words of a round's message.
-pub fn message_length(circuit: &[u32], layer: usize, round: usize) -> usize
-    ensures { result ≡ message_length circuit.now (place layer round) }
-{
-    if is_line(circuit, layer, round) {
-        return layout::exponent(circuit, layer) as usize + 1;
+impl Place {
+    // Whether its round is its layer's line.
+    pub fn is_line(self, circuit: &[u32]) -> bool
+        ensures { result ≡ is_line circuit.now (as_place self) }
+    {
+        self.round == 2 * layout::exponent(circuit, self.layer) as usize
     }
-    3
+
+    // The words of its round's message.
+    #[tactic(auto, using(crate::proofs::Lengths::length_of_line, crate::proofs::Lengths::length_of_sum))]
+    pub fn message_length(self, circuit: &[u32]) -> usize
+        ensures { result ≡ message_length circuit.now (as_place self) }
+    {
+        if self.is_line(circuit) {
+            layout::exponent(circuit, self.layer) as usize + 1
+        } else {
+            3
+        }
+    }
 }
 
-// A first number, and the sum of a × k + 1 over the exponents k of the layers before this one, for a small a.
-fn sum_layers(circuit: &[u32], first: u32, a: usize, layer: usize) -> usize
-    requires { a ≤ 7 }
-    ensures { SumBefore circuit.now first a layer result }
+// The exponents of the layers before one, no more than a circuit can have.
+fn exponents_before(circuit: &[u32], layer: usize) -> &[u32]
+    ensures few { length result.now ≤ max_depth }
+    ensures before { LayerSoFar circuit.now layer → result.now ≡ take (layer - 1) (exponents circuit.now) }
 {
-    if MAX_DEPTH + 1 < layer {
-        return 0;
-    }
-    let mut sum = first as usize;
-    for i in 1..layer {
-        sum += a * layout::exponent(circuit, i) as usize + 1;
-    }
-    sum
+    let exponents = layout::exponents(circuit);
+    let count = layer.saturating_sub(1).min(exponents.len()).min(MAX_DEPTH);
+    &exponents[..count]
+}
+
+// The sum of a × k + 1 over exponents k.
+fn layer_sum(exponents: &[u32], a: usize) -> usize
+    requires { (a ≤ 7) × (length exponents.now ≤ max_depth) }
+    ensures { result ≡ layer_sum a exponents.now }
+{
+    exponents.iter().map(|&k| a * k as usize + 1).sum()
 }
 
 // The coins before a layer.
+#[tactic(auto, using(circuit::proofs::Sized::one_output, crate::proofs::Coins::sum_start))]
 pub fn coins_before(circuit: &[u32], layer: usize) -> usize
     ensures { CoinsBefore circuit.now layer result }
 {
-    sum_layers(circuit, layout::exponent(circuit, 0), 2, layer)
+    layout::exponent(circuit, 0) as usize + layer_sum(exponents_before(circuit, layer), 2)
 }
 
 // The coins of a circuit.
+#[tactic(auto, using(crate::proofs::Coins::so_far, crate::proofs::Coins::all_coins))]
 pub fn coin_count(circuit: &[u32]) -> usize
     ensures { CoinsOf circuit.now result }
 {
-    sum_layers(
-        circuit,
-        layout::exponent(circuit, 0),
-        2,
-        layout::depth(circuit) + 1,
-    )
+    coins_before(circuit, layout::depth(circuit) + 1)
 }
 
 // The words of all its messages.
+#[tactic(auto, using(crate::proofs::Coins::so_far, crate::proofs::Coins::all_words))]
 pub fn message_words(circuit: &[u32]) -> usize
     ensures { WordsOf circuit.now result }
 {
-    sum_layers(circuit, 0, 7, layout::depth(circuit) + 1)
+    layer_sum(exponents_before(circuit, layout::depth(circuit) + 1), 7)
 }
 
 // The refusals 11 and 12.
@@ -84,6 +99,43 @@ pub fn check_coins(circuit: &[u32], coins: &[u32]) -> Result<(), Cause>
     Ok(())
 }
 
+// A point of no more coordinates than a row holds.
+#[derive(Default, Drop)]
+pub struct Point {
+    row: [u32; MAX_COORDINATES],
+    count: usize,
+}
+
+impl Model for Point {
+    ghost use Rattle.std.specs.Prelude.{ℕ, ◌≤◌, List, take};
+    ghost use Rattle.extension.specs.Limits.{row_length};
+
+    ghost Value = { List ℕ };
+
+    ghost view = { λ p. take p.count p.row };
+
+    ghost invariant = { λ p. p.count ≤ row_length };
+}
+
+impl Point {
+    // The point of these coordinates; of more than a row holds, the first.
+    fn new(coordinates: &[u32]) -> Self
+        ensures { result ≡ take row_length coordinates.now }
+    {
+        Point {
+            row: row(coordinates),
+            count: coordinates.len().min(MAX_COORDINATES),
+        }
+    }
+
+    pub fn coordinates(&self) -> &[u32]
+        ensures all { result.now ≡ self.now }
+        ensures few { length result.now ≤ row_length }
+    {
+        &self.row[..self.count]
+    }
+}
+
 // A point's coordinates in a row; of more than its length, the first.
 fn row(coordinates: &[u32]) -> [u32; MAX_COORDINATES]
     ensures { Row (take row_length coordinates.now) result }
@@ -94,68 +146,50 @@ fn row(coordinates: &[u32]) -> [u32; MAX_COORDINATES]
 }
 
 // The standing point at a layer, from the coins before it: the end of the line of the layer above.
-pub fn standing_point(circuit: &[u32], layer: usize, past: &[u32]) -> [u32; MAX_COORDINATES]
+pub fn standing_point(circuit: &[u32], layer: usize, past: &[u32]) -> Point
     ensures { PointStands circuit.now layer past.now result }
 {
     if layer < 2 {
-        return row(past);
+        return Point::new(past);
     }
     let k = layout::exponent(circuit, layer - 1) as usize;
     if past.len() < 2 * k + 1 {
-        return [0u32; MAX_COORDINATES];
+        return Point::default();
     }
     let t = past.len() - 1;
     let v = t - k;
     let u = v - k;
     let points = [row(&past[u..v]), row(&past[v..t])];
-    summand::line_point(Field::of(layout::prime(circuit)), points, past[t])
+    Point {
+        row: summand::line_point(Field::of(layout::prime(circuit)), points, past[t]),
+        count: k.min(MAX_COORDINATES),
+    }
 }
 
-// What stands at a round: the exponents of the layer above and of its own, the standing point, and the layer's coins so far as coordinates of
-// its two points.
-#[derive(Clone, Copy)]
+// What stands at a round: the standing point, and the layer's coins so far as coordinates of its two points, of which it has as many as the
+// layer's exponent says.
+#[derive(Default, Drop)]
 pub struct Stand {
-    pub above: usize,
+    pub point: Point,
     pub own: usize,
-    pub point: [u32; MAX_COORDINATES],
-    pub u: [u32; MAX_COORDINATES],
-    pub v: [u32; MAX_COORDINATES],
+    // An array of both, since two points go by value.
+    pub points: [[u32; MAX_COORDINATES]; 2],
 }
 
-// What stands where there is no such round.
-fn nothing() -> Stand
-    ensures { (result.above ≡ 0) × (result.own ≡ 0) }
+// What stands at a place, from the coins before it; nothing where there is no such round. Whatever the list, its numbers are cut to a row's
+// length.
+pub fn at_round(circuit: &[u32], place: Place, past: &[u32]) -> Stand
+    ensures { StandsAt circuit.now (as_place place) past.now result }
 {
+    if place.layer < 1 || past.len() < place.round {
+        return Stand::default();
+    }
+    let own = (layout::exponent(circuit, place.layer) as usize).min(MAX_COORDINATES);
+    let (before, coins) = past.split_at(past.len() - place.round);
+    let (u, v) = coins.split_at(place.round.min(own));
     Stand {
-        above: 0,
-        own: 0,
-        point: [0u32; MAX_COORDINATES],
-        u: [0u32; MAX_COORDINATES],
-        v: [0u32; MAX_COORDINATES],
-    }
-}
-
-// What stands at a round, from the coins before it. Whatever the list, its numbers are cut to a row's length.
-pub fn at_round(circuit: &[u32], layer: usize, round: usize, past: &[u32]) -> Stand
-    ensures { StandsAt circuit.now layer round past.now result }
-{
-    if layer < 1 {
-        return nothing();
-    }
-    if past.len() < round {
-        return nothing();
-    }
-    let own = lists::least(layout::exponent(circuit, layer) as usize, MAX_COORDINATES);
-    let start = past.len() - round;
-    let middle = start + lists::least(round, own);
-    Stand {
-        above: lists::least(
-            layout::exponent(circuit, layer - 1) as usize,
-            MAX_COORDINATES,
-        ),
+        point: standing_point(circuit, place.layer, before),
         own,
-        point: standing_point(circuit, layer, &past[..start]),
-        u: row(&past[start..middle]),
-        v: row(&past[middle..]),
+        points: [row(u), row(v)],
     }
 }

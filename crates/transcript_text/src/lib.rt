@@ -4,13 +4,14 @@
 ghost use Rattle.std.specs.Prelude.{◌≡◌, length};
 ghost use Rattle.circuit.specs.Circuit.{message_words};
 ghost use Rattle.circuit.specs.Sized.{LegalCircuit};
-ghost use Rattle.protocol.specs.Rounds.{place, rounds};
+ghost use Rattle.protocol.specs.Rounds.{rounds};
+ghost use Rattle.standing.specs.Standing.{as_place};
 ghost use Rattle.text.specs.Lines.{line_text};
 ghost use Rattle.text.specs.Wrote.{Wrote};
 ghost use Rattle.transcript_text.specs.Transcript.{word_of, messages_text, proof_text, lists_text};
 
 use layout::{MAX_DEPTH, MAX_EXPONENT};
-use prover::Proved;
+use standing::Place;
 
 // The coins and message words of the largest circuit.
 const MAX_COINS: usize = MAX_DEPTH * (2 * MAX_EXPONENT as usize + 1);
@@ -21,20 +22,15 @@ const MAX_MESSAGE_WORDS: usize = MAX_DEPTH * (7 * MAX_EXPONENT as usize + 1);
 pub const MAX_TEXT: usize = 17 + 5 * MAX_COINS + 11 * MAX_MESSAGE_WORDS;
 
 // Writes the line of a round.
-fn write_message(
-    circuit: &[u32],
-    layer: usize,
-    round: usize,
-    message: &[u32],
-    text: &mut [u8],
-) -> usize
-    ensures { Wrote (line_text (word_of circuit.now (place layer round)) message.now)
+fn write_message(circuit: &[u32], place: Place, message: &[u32], text: &mut [u8]) -> usize
+    ensures { Wrote (line_text (word_of circuit.now (as_place place)) message.now)
         text.old text.new result }
 {
-    if standing::is_line(circuit, layer, round) {
-        return text::put_line(text, b"line", message);
+    if place.is_line(circuit) {
+        text::put_line(text, b"line", message)
+    } else {
+        text::put_line(text, b"sum", message)
     }
-    text::put_line(text, b"sum", message)
 }
 
 // Writes the lines of all rounds.
@@ -47,8 +43,9 @@ fn write_messages(circuit: &[u32], messages: &[u32], text: &mut [u8]) -> usize
     let mut to = 0;
     for layer in 1..layout::depth(circuit) + 1 {
         for round in 0..2 * layout::exponent(circuit, layer) as usize + 1 {
-            let end = at + standing::message_length(circuit, layer, round);
-            to += write_message(circuit, layer, round, &messages[at..end], &mut text[to..]);
+            let place = Place { layer, round };
+            let end = at + place.message_length(circuit);
+            to += write_message(circuit, place, &messages[at..end], &mut text[to..]);
             at = end;
         }
     }
@@ -72,10 +69,7 @@ pub fn write_lists(circuit: &[u32], input: &[u32], coins: &[u32], text: &mut [u8
     let mut messages = [0u32; MAX_MESSAGE_WORDS];
     let proved = prover::prove(circuit, input, coins, &mut messages);
     match proved {
-        Proved::Refused(cause) => printing::write_refused(cause, text),
-        Proved::Written(proof) => {
-            let words = proof.words;
-            write_proof(circuit, proof.output, &messages[..words], text)
-        }
+        Err(cause) => printing::write_refused(cause, text),
+        Ok(proof) => write_proof(circuit, proof.output, &messages[..proof.words], text),
     }
 }

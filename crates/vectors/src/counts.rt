@@ -4,9 +4,8 @@
 // before them.
 ghost use Rattle.std.specs.Prelude.{◌≤◌};
 
-use session::{Opening, Verdict};
+use session::Verdict;
 use std::io::{Result, Write};
-use verifier::Outcome;
 
 const ALL_LISTS: u32 = 2197;
 
@@ -23,14 +22,14 @@ fn coins_of(number: u32) -> [u32; 3] {
 // The prover's messages, all at once.
 fn whole(circuit: &[u32], input: &[u32], coins: [u32; 3]) -> [u32; 8] {
     let mut messages = [0u32; 8];
-    prover::prove(circuit, input, &coins, &mut messages);
+    let _ = prover::prove(circuit, input, &coins, &mut messages);
     messages
 }
 
 // The message that follows a coin prefix, with 0 behind it where it is shorter.
 fn following(circuit: &[u32], input: &[u32], prefix: &[u32]) -> [u32; 3] {
     let mut message = [0u32; 3];
-    prover::prove_one(circuit, input, prefix, &mut message);
+    let _ = prover::prove_one(circuit, input, prefix, &mut message);
     message
 }
 
@@ -65,8 +64,8 @@ fn checked(circuit: &[u32], input: &[u32], output: u32, coins: &[u32], messages:
     ensures { result ≤ 1 }
 {
     match verifier::check(circuit, input, output, coins, messages) {
-        Outcome::Accepted => 1,
-        Outcome::Refused(_) => 0,
+        Ok(()) => 1,
+        Err(_) => 0,
     }
 }
 
@@ -81,7 +80,7 @@ fn stepped(circuit: &[u32], input: &[u32], output: u32, coins: &[u32], messages:
     let second = &messages[3..6];
     let third = &messages[6..];
     let opening = session::open(circuit, input, output, coins);
-    let Opening::Opened(opened) = opening else {
+    let Ok(opened) = opening else {
         return 0;
     };
     let session = session::step(circuit, input, coins, opened, first).session;

@@ -1,28 +1,30 @@
 // Cases of both forms of prove.
 use crate::MAX_WORDS;
-use prover::{Message, Proved};
-use std::io::{Result, Write};
+use prover::Proof;
+use refusal::Cause;
+use std::io;
+use std::io::Write;
 
 // Prints a number after a space.
-fn print_count<W: Write>(output: &mut W, count: usize) -> Result<()> {
+fn print_count<W: Write>(output: &mut W, count: usize) -> io::Result<()> {
     cases::print_labelled(output, b" ", count as u64)
 }
 
-fn print_proved<W: Write>(output: &mut W, proved: Proved) -> Result<()> {
+fn print_proved<W: Write>(output: &mut W, proved: Result<Proof, Cause>) -> io::Result<()> {
     match proved {
-        Proved::Written(proof) => {
+        Ok(proof) => {
             output.write_all(b"proved")?;
             cases::print_numbers(output, &[proof.output])?;
             print_count(output, proof.words)?;
         }
-        Proved::Refused(cause) => {
+        Err(cause) => {
             cases::print_refused(output, cause)?;
         }
     }
     Ok(())
 }
 
-pub fn prove<W: Write>(output: &mut W, lists: &[u32]) -> Result<()> {
+pub fn prove<W: Write>(output: &mut W, lists: &[u32]) -> io::Result<()> {
     let mut buffer = [0u32; MAX_WORDS];
     let count = lists::put(&mut buffer, cases::list(lists, 3));
     let lent = &mut buffer[..count];
@@ -37,7 +39,7 @@ pub fn prove<W: Write>(output: &mut W, lists: &[u32]) -> Result<()> {
     Ok(())
 }
 
-pub fn prove_one<W: Write>(output: &mut W, lists: &[u32]) -> Result<()> {
+pub fn prove_one<W: Write>(output: &mut W, lists: &[u32]) -> io::Result<()> {
     let mut buffer = [0u32; MAX_WORDS];
     let count = lists::put(&mut buffer, cases::list(lists, 3));
     let lent = &mut buffer[..count];
@@ -48,11 +50,11 @@ pub fn prove_one<W: Write>(output: &mut W, lists: &[u32]) -> Result<()> {
         lent,
     );
     match message {
-        Message::Written(words) => {
+        Ok(words) => {
             output.write_all(b"message")?;
             print_count(output, words)?;
         }
-        Message::Refused(cause) => {
+        Err(cause) => {
             cases::print_refused(output, cause)?;
         }
     }

@@ -1,7 +1,6 @@
 // Cases of check, open and step.
-use session::{Opening, Session, Verdict};
+use session::{Session, Verdict};
 use std::io::{Result, Write};
-use verifier::Outcome;
 
 fn print_record<W: Write>(output: &mut W, session: Session) -> Result<()> {
     output.write_all(b" record")?;
@@ -32,10 +31,10 @@ pub fn check<W: Write>(output: &mut W, lists: &[u32]) -> Result<()> {
         cases::list(lists, 4),
     );
     match outcome {
-        Outcome::Accepted => {
+        Ok(()) => {
             output.write_all(b"accepted")?;
         }
-        Outcome::Refused(cause) => {
+        Err(cause) => {
             cases::print_refused(output, cause)?;
         }
     }
@@ -50,11 +49,11 @@ pub fn open<W: Write>(output: &mut W, lists: &[u32]) -> Result<()> {
         cases::list(lists, 3),
     );
     match opening {
-        Opening::Opened(session) => {
+        Ok(session) => {
             output.write_all(b"opened")?;
             print_record(output, session)?;
         }
-        Opening::Refused(cause) => {
+        Err(cause) => {
             cases::print_refused(output, cause)?;
         }
     }

@@ -2,20 +2,19 @@
 #![tactic(auto)]
 
 ghost use Rattle.text.specs.Wrote.{Wrote};
-ghost use Rattle.verifier.specs.Answers.{outcome_of};
+ghost use Rattle.refusal.specs.Number.{cause_of};
 ghost use Rattle.printing.specs.Printed.{answer_text};
 ghost use Rattle.verdict_text.specs.Verdict.{accepted_text, lists_text};
 
 use refusal::Cause;
-use verifier::Outcome;
 
 // Writes the line of a check's answer.
-fn write_outcome(outcome: Outcome, text: &mut [u8]) -> usize
-    ensures { Wrote (answer_text (outcome_of outcome) accepted_text) text.old text.new result }
+fn write_outcome(outcome: Result<(), Cause>, text: &mut [u8]) -> usize
+    ensures { Wrote (answer_text (cause_of outcome) accepted_text) text.old text.new result }
 {
     match outcome {
-        Outcome::Accepted => text::put_line(text, b"accepted", &[]),
-        Outcome::Refused(cause) => printing::write_refused(cause, text),
+        Ok(()) => text::put_line(text, b"accepted", &[]),
+        Err(cause) => printing::write_refused(cause, text),
     }
 }
 

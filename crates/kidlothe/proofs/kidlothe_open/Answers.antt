@@ -4,10 +4,10 @@ use Rattle.refusal.proofs.Told.{told}
 use Rattle.kidlothe.proofs.Opening.{export_opened, export_refused}
 use Rattle.kidlothe.proofs.kidlothe_open.Goals as goal
 
-pub returns-in-Opened : goal.returns-in-Opened
-returns-in-Opened c =
-    export_opened _ _ _ _ _ (record_of c.in-Opened.opened) (told opening_of c.in-Opened.is c.open-opening.ensures) _ c.session_words.ensures
+pub returns-in-Ok : goal.returns-in-Ok
+returns-in-Ok c =
+    export_opened _ _ _ _ _ (record_of c.in-Ok.opened) (told opening_of c.in-Ok.is c.open-opening.ensures) _ c.session_words.ensures
 
-pub returns-in-Refused : goal.returns-in-Refused
-returns-in-Refused c =
-    export_refused _ _ _ _ _ c.in-Refused.cause (told opening_of c.in-Refused.is c.open-opening.ensures) _ c.from.ensures
+pub returns-in-Err : goal.returns-in-Err
+returns-in-Err c =
+    export_refused _ _ _ _ _ c.in-Err.cause (told opening_of c.in-Err.is c.open-opening.ensures) _ c.from.ensures

@@ -27,15 +27,15 @@ returns-then-is_line c h =
     let before = c.gates_before-from.ensures in
     let wide = c.width.ensures ∙ ap width_of c.exponent.ensures in
     c.write_line.ensures (sym c.is_line.ensures ∙ search rules) (part_writable _ _ _ _ _ _ h _ _ before wide)
-    ∙ ap (λ (vs : List ℕ). over (message_from circuit vs (place a.layer a.round) a.past.now) a.buffer.now)
+    ∙ ap (λ (vs : List ℕ). over (message_from circuit vs (place a.place.layer a.place.round) a.past.now) a.buffer.now)
     (part_values _ _ _ _ _ _ h _ _ before wide)
 
-pub returns : goal.returns
-returns c h =
+pub returns-else-is_line : goal.returns-else-is_line
+returns-else-is_line c h =
     let a = c.args in
     let circuit = a.circuit.now in
     let before = c.gates_before-from.ensures in
     let wide = c.width.ensures ∙ ap width_of c.exponent.ensures in
     c.write_sum.ensures (sym c.is_line.ensures ∙ search rules) (part_writable _ _ _ _ _ _ h _ _ before wide)
-    ∙ ap (λ (vs : List ℕ). over (message_from circuit vs (place a.layer a.round) a.past.now) a.buffer.now)
+    ∙ ap (λ (vs : List ℕ). over (message_from circuit vs (place a.place.layer a.place.round) a.past.now) a.buffer.now)
     (part_values _ _ _ _ _ _ h _ _ before wide)

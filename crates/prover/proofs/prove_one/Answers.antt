@@ -1,9 +1,9 @@
 -- `prove_one` meets its contract: refusal by refusal, then the message of the round that follows the prefix.
 use Prim.Native.Nat.{ℕ, ◌<◌}
-use mathlib.Core.Path.{◌∙◌}
+use mathlib.Core.Path.{sym, ◌∙◌}
 use native.Mathlib.Omega.{arith}
 use lib.ListN.{length, length-replicate}
-use Rattle.refusal.proofs.Told.{refusal_told, none_told}
+use Rattle.refusal.proofs.Told.{refused_is}
 use Rattle.circuit.specs.Limits.{max_values}
 use Rattle.circuit.specs.Circuit.{coin_count}
 use Rattle.circuit.proofs.Legal.{below_told}
@@ -13,32 +13,32 @@ use Rattle.prover.proofs.Values.{writable}
 use Rattle.prover.proofs.Following.{Due, one_lists, one_count, one_word, one_short, one_written}
 use Rattle.prover.proofs.prove_one.Goals as goal
 
-pub returns-in-Err : goal.returns-in-Err
-returns-in-Err c = one_lists _ _ _ _ _ (refusal_told c.in-Err.is c.check_lists-lists.ensures)
+pub returns-in_err-check_lists : goal.returns-in_err-check_lists
+returns-in_err-check_lists c = rw (refused_is _ _ c.from_residual.ensures.1) (one_lists _ _ _ _ _ c.in_err-check_lists.ensures)
 
 pub returns-then-coin_count-prefix : goal.returns-then-coin_count-prefix
 returns-then-coin_count-prefix c =
-    let none = none_told c.in_default.is c.check_lists-lists.ensures in
+    let none = sym c.in_ok-check_lists.ensures in
     let count = c.coin_count.ensures (legal_lists c.args.circuit.now c.args.input.now none).circuit in
     one_count _ _ _ _ none (omega (arith, count, c.if-coin_count-prefix.true))
 
 pub returns-then-not-all_below : goal.returns-then-not-all_below
 returns-then-not-all_below c =
-    let none = none_told c.in_default.is c.check_lists-lists.ensures in
+    let none = sym c.in_ok-check_lists.ensures in
     let count = c.coin_count.ensures (legal_lists c.args.circuit.now c.args.input.now none).circuit in
     let few : length c.args.prefix.now < coin_count c.args.circuit.now = omega (arith, count, c.if-coin_count-prefix.false) in
     one_word _ _ _ _ none few (below_told c.args.prefix.now c.prime.ensures c.all_below.ensures ∙ c.if-not-all_below.true)
 
 pub place_after-place-requires : goal.place_after-place-requires
 place_after-place-requires c =
-    let none = none_told c.in_default.is c.check_lists-lists.ensures in
+    let none = sym c.in_ok-check_lists.ensures in
     let count = c.coin_count.ensures (legal_lists c.args.circuit.now c.args.input.now none).circuit in
     let few : length c.args.prefix.now < coin_count c.args.circuit.now = omega (arith, count, c.if-coin_count-prefix.false) in
     ((legal_lists _ _ none).circuit, few)
 
 pub returns-then-buffer-words : goal.returns-then-buffer-words
 returns-then-buffer-words c =
-    let none = none_told c.in_default.is c.check_lists-lists.ensures in
+    let none = sym c.in_ok-check_lists.ensures in
     let count = c.coin_count.ensures (legal_lists c.args.circuit.now c.args.input.now none).circuit in
     let few : length c.args.prefix.now < coin_count c.args.circuit.now = omega (arith, count, c.if-coin_count-prefix.false) in
     let residues = below_told c.args.prefix.now c.prime.ensures c.all_below.ensures ∙ c.if-not-all_below.false in
@@ -49,11 +49,11 @@ returns-then-buffer-words c =
     one_short _ _ _ _ due (omega (arith, c.message_length-words.ensures, c.if-buffer-words.true))
 
 pub fill_values-requires : goal.fill_values-requires
-fill_values-requires c = (none_told c.in_default.is c.check_lists-lists.ensures, length-replicate {A = ℕ} max_values 0)
+fill_values-requires c = (sym c.in_ok-check_lists.ensures, length-replicate {A = ℕ} max_values 0)
 
 pub returns : goal.returns
 returns c =
-    let none = none_told c.in_default.is c.check_lists-lists.ensures in
+    let none = sym c.in_ok-check_lists.ensures in
     let count = c.coin_count.ensures (legal_lists c.args.circuit.now c.args.input.now none).circuit in
     let few : length c.args.prefix.now < coin_count c.args.circuit.now = omega (arith, count, c.if-coin_count-prefix.false) in
     let residues = below_told c.args.prefix.now c.prime.ensures c.all_below.ensures ∙ c.if-not-all_below.false in

@@ -1,26 +1,28 @@
 -- `open` meets its contract: refusal by refusal.
-use Rattle.std.proofs.Common.{arith}
-use Rattle.refusal.proofs.Told.{refusal_told, none_told}
+use Rattle.std.proofs.Common.{sym, ap, ◌∙◌, arith}
+use Rattle.refusal.proofs.Told.{refused_is}
 use Rattle.circuit.proofs.Loading.{legal_lists}
+use Rattle.session.specs.Answers.{opening_of}
 use Rattle.session.proofs.Opens.{open_lists, open_output, open_coins, open_opens}
 use Rattle.session.proofs.«open».Goals as goal
 
-pub returns-in-Err : goal.returns-in-Err
-returns-in-Err c = open_lists _ _ _ _ c.in-Err.cause (refusal_told c.in-Err.is c.check_lists-lists.ensures)
+pub returns-in_err-check_lists : goal.returns-in_err-check_lists
+returns-in_err-check_lists c =
+    ap opening_of (refused_is _ _ c.from_residual.ensures.1) ∙ open_lists _ _ _ _ _ c.in_err-check_lists.ensures
 
 pub returns-then-prime-output : goal.returns-then-prime-output
 returns-then-prime-output c =
-    let none = none_told c.in_default.is c.check_lists-lists.ensures in
-    open_output _ _ c.args.output c.args.coins.now none (omega (arith, c.if-prime-output.true, c.prime.ensures))
+    open_output _ _ c.args.output c.args.coins.now (sym c.in_ok-check_lists.ensures) (omega (arith, c.if-prime-output.true, c.prime.ensures))
 
-pub returns-in-Err-taken : goal.returns-in-Err-taken
-returns-in-Err-taken c =
-    let none = none_told c.in_default.is c.check_lists-lists.ensures in
-    open_coins _ _ c.args.output c.args.coins.now none (omega (arith, c.if-prime-output.false, c.prime.ensures)) c.in-Err-taken.cause
-    (refusal_told c.in-Err-taken.is (c.check_coins-taken.ensures (legal_lists _ _ none).circuit))
+pub returns-in_err-check_coins : goal.returns-in_err-check_coins
+returns-in_err-check_coins c =
+    let none = sym c.in_ok-check_lists.ensures in
+    ap opening_of (refused_is _ _ c.from_residual-in_err-check_coins.ensures.1)
+    ∙ open_coins _ _ c.args.output c.args.coins.now none (omega (arith, c.if-prime-output.false, c.prime.ensures)) _
+    (c.in_err-check_coins.ensures (legal_lists _ _ none).circuit)
 
 pub returns : goal.returns
 returns c =
-    let none = none_told c.in_default.is c.check_lists-lists.ensures in
+    let none = sym c.in_ok-check_lists.ensures in
     open_opens _ _ c.args.output c.args.coins.now none (omega (arith, c.if-prime-output.false, c.prime.ensures))
-    (none_told c.in_default-taken.is (c.check_coins-taken.ensures (legal_lists _ _ none).circuit))
+    (sym (c.in_ok-check_coins.ensures (legal_lists _ _ none).circuit))

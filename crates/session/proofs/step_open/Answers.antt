@@ -1,5 +1,5 @@
 -- `step_open` meets its contract: the coins before the round and the judgement are those of the definition.
-use Rattle.std.proofs.Common.{ℕ, ◌+◌, get_or, length-take-le, refl, sym, ap, ◌∙◌, arith}
+use Rattle.std.proofs.Common.{ℕ, ◌+◌, get_or, length-take-le, sym, ap, ◌∙◌, arith}
 use Rattle.algebra.specs.Numbers.{words}
 use Rattle.algebra.specs.Polynomial.{value_at}
 use Rattle.refusal.proofs.Told.{refusal_told, none_told}
@@ -9,31 +9,40 @@ use Rattle.session.proofs.Coming.{number_is, coins_few, coin_inside, at_round, r
 use Rattle.session.proofs.step_open.Goals as goal
 
 pub overflow_add-n : goal.overflow_add-n
-overflow_add-n c = let few = coins_few _ _ _ _ c.requires _ (number_is _ _ _ _ c.requires c.coins_before.ensures) in omega arith
+overflow_add-n c =
+    let few = coins_few _ _ _ _ c.requires _ (number_is _ _ _ _ c.requires c.place-place.ensures c.coins_before.ensures) in
+    omega arith
 
 pub slice_bounds-judge-end : goal.slice_bounds-judge-end
 slice_bounds-judge-end c =
-    let there = coin_inside _ _ _ _ c.requires _ (number_is _ _ _ _ c.requires c.coins_before.ensures) in
+    let there = coin_inside _ _ _ _ c.requires _ (number_is _ _ _ _ c.requires c.place-place.ensures c.coins_before.ensures) in
     sym (length-take-le _ _ (omega arith))
 
 pub returns-in-Err : goal.returns-in-Err
 returns-in-Err c =
-    let counted = number_is _ _ _ _ c.requires c.coins_before.ensures in
-    let judged = c.judge-judged.ensures (at_round _ _ _ _ c.requires _ counted) in
-    refused_open _ _ _ _ c.requires _ counted c.args.message.now c.in-Err.cause (refusal_told c.in-Err.is judged) _ refl c.ended.ensures
+    let same = c.place-place.ensures in
+    let counted = number_is _ _ _ _ c.requires same c.coins_before.ensures in
+    let judged = c.judge-judged.ensures (at_round _ _ _ _ c.requires _ counted same) in
+    refused_open _ _ _ _ c.requires _ counted c.args.message.now _ same (refusal_told c.in-Err.is judged) _ c.refusal.ensures.0
+    (c.refusal.ensures.1 ∙ c.ended.ensures)
 
 pub offset_bounds-coins-n : goal.offset_bounds-coins-n
-offset_bounds-coins-n c = let few = coins_few _ _ _ _ c.requires _ (number_is _ _ _ _ c.requires c.coins_before.ensures) in omega arith
+offset_bounds-coins-n c =
+    let few = coins_few _ _ _ _ c.requires _ (number_is _ _ _ _ c.requires c.place-place.ensures c.coins_before.ensures) in
+    omega arith
 
 pub bounds-coins-n : goal.bounds-coins-n
-bounds-coins-n c = let there = coin_inside _ _ _ _ c.requires _ (number_is _ _ _ _ c.requires c.coins_before.ensures) in omega arith
+bounds-coins-n c =
+    let there = coin_inside _ _ _ _ c.requires _ (number_is _ _ _ _ c.requires c.place-place.ensures c.coins_before.ensures) in
+    omega arith
 
 pub returns : goal.returns
 returns c =
     let m = c.args.message.now in
-    let n : ℕ = c.coins_before.result + c.args.session.round in
-    let number = number_is _ _ _ _ c.requires c.coins_before.ensures in
+    let here = c.place-place.ensures in
+    let n : ℕ = c.coins_before.result + c.place-place.result.round in
+    let number = number_is _ _ _ _ c.requires here c.coins_before.ensures in
     let f = prime_modulus _ (legal _ _ _ _ c.requires) _ _ c.prime.ensures c.of.ensures in
     let y = c.value_at-claim.ensures ∙ ap (λ (p : ℕ). value_at (words p) m (get_or c.args.coins.now n 0)) f in
-    let passed = none_told c.in_default.is (c.judge-judged.ensures (at_round _ _ _ _ c.requires n number)) in
-    passed_open _ _ _ _ c.requires n number m passed _ (rw y at c.go_on.ensures)
+    let passed = none_told c.in_default.is (c.judge-judged.ensures (at_round _ _ _ _ c.requires n number here)) in
+    passed_open _ _ _ _ c.requires n number m here passed _ (rw y at c.go_on.ensures)

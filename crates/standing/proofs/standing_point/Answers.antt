@@ -10,7 +10,7 @@ use Rattle.standing.proofs.Points.{standing_enough, first_row, standing_row}
 use Rattle.standing.proofs.standing_point.Goals as goal
 
 pub returns-then-layer-lt2 : goal.returns-then-layer-lt2
-returns-then-layer-lt2 c h = first_row _ c.args.past.now c.args.layer _ h c.if-layer-lt2.true c.row.ensures
+returns-then-layer-lt2 c h = c.new.ensures ∙ first_row _ c.args.past.now c.args.layer h c.if-layer-lt2.true
 
 pub returns-then-past-k : goal.returns-then-past-k
 returns-then-past-k c h =
@@ -23,8 +23,9 @@ returns c h =
     let l = c.args.circuit.now in
     let past = c.args.past.now in
     let f = prime_modulus l h.there.legal _ _ c.prime.ensures c.of.ensures in
-    let first = c.row-2 in
-    let second = c.row-3 in
+    let first = c.row in
+    let second = c.row-2 in
     let line = c.line_point.ensures ∙ ap (λ (p : ℕ). line_point (words p) first.result second.result (get_or past (length past - 1) 0)) f in
-    standing_row l past c.args.layer c.exponent-k.result _ _ _ h c.if-layer-lt2.false c.exponent-k.ensures
-    (record { first = first.ensures; second = second.ensures; point = line })
+    rw c.min.ensures
+    (standing_row l past c.args.layer c.exponent-k.result _ _ _ h c.if-layer-lt2.false c.exponent-k.ensures
+    (record { first = first.ensures; second = second.ensures; point = line }))

@@ -10,7 +10,7 @@ returns-then-is_line c =
     wrote_as _ _ _ _ c.put_line.ensures _
     (ap (λ (b : Bool). line_text (cond b (ascii "line") (ascii "sum")) c.args.message.now) (sym c.if-is_line.true ∙ c.is_line.ensures))
 
-pub returns : goal.returns
-returns c =
-    wrote_as _ _ _ _ c.put_line-2.ensures _
+pub returns-else-is_line : goal.returns-else-is_line
+returns-else-is_line c =
+    wrote_as _ _ _ _ c.put_line-else-is_line.ensures _
     (ap (λ (b : Bool). line_text (cond b (ascii "line") (ascii "sum")) c.args.message.now) (sym c.if-is_line.false ∙ c.is_line.ensures))
