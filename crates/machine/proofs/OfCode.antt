@@ -3,6 +3,9 @@
 use Prim.Native.Nat.{ℕ}
 use mathlib.Core.Path.{◌≡◌, refl, sym, ap, ◌∙◌, subst}
 use mathlib.Core.List.{List}
+use Rattle.std.specs.Prelude.{⊤, Result, Ok, Err}
+use Rattle.refusal.specs.Number.{cause_of}
+use Rattle.refusal.specs.declared.Cause.{Cause}
 use Rattle.refusal.proofs.Order.{refused_by}
 use Rattle.walk.specs.Session.{refused, Record}
 use Rattle.protocol.specs.Rounds.{Place}
@@ -10,11 +13,6 @@ use Rattle.protocol.specs.Session.{opened_at, open_answer}
 use Rattle.protocol.proofs.Opening.{opened_record}
 use Rattle.session.specs.Answers.{record_of, opening_of}
 use Rattle.session.specs.declared.Session.{Session}
-use Rattle.session.specs.declared.Opening.{Opening}
-use Rattle.session.specs.declared.Opening.TheVariants as opening
-use Rattle.verifier.specs.Answers.{outcome_of}
-use Rattle.verifier.specs.declared.Outcome.{Outcome}
-use Rattle.verifier.specs.declared.Outcome.TheVariants as outcome
 use Rattle.machine.specs.Words.{Word}
 use Rattle.machine.specs.Code.{Code, WordSession, KeepsContracts, outcome_answer, opening_begun, of_code}
 use Rattle.machine.specs.Exported.{number_answer}
@@ -24,13 +22,13 @@ use Rattle.machine.proofs.Simulation.{begun_as, Stored, both, Simulates}
 use Rattle.machine.proofs.Holds.{holds}
 
 -- a cause has no number 0, so that accepted is told from refused by the number too
-outcome_number : (x : Outcome) (n : ℕ) → outcome_of x ≡ n → outcome_answer x ≡ number_answer n
-outcome_number outcome.Accepted n e = ap number_answer e
-outcome_number (outcome.Refused cause) n e = refused_by number_answer refused (λ k. refl) cause n (sym e)
+outcome_number : (x : Result ⊤ Cause) (n : ℕ) → cause_of x ≡ n → outcome_answer x ≡ number_answer n
+outcome_number (Ok x) n e = ap number_answer e
+outcome_number (Err cause) n e = refused_by number_answer refused (λ k. refl) cause n (sym e)
 
-opening_begun_lem : (x : Opening) → begun_as record_of (opening_begun x) ≡ opening_of x
-opening_begun_lem (opening.Opened s) = refl
-opening_begun_lem (opening.Refused cause) = refl
+opening_begun_lem : (x : Result Session Cause) → begun_as record_of (opening_begun x) ≡ opening_of x
+opening_begun_lem (Ok s) = refl
+opening_begun_lem (Err cause) = refl
 
 -- a session's figures are those of the record that it stands for
 session_words_lem : (s : Session) (r : Record Place) → record_of s ≡ r → Figures r → WordSession s
@@ -41,10 +39,10 @@ session_words_lem s r e f =
 session_figures : (s : Session) → WordSession s → Figures (record_of s)
 session_figures s w = record { layer = w.layer; round = w.round; claim = w.claim }
 
-opening_stored : (c input : List ℕ) (y : ℕ) (cs : List ℕ) → Word y → (x : Opening) → opening_of x ≡ open_answer c input y cs → Stored WordSession (opening_begun x)
-opening_stored c input y cs wy (opening.Opened s) e =
+opening_stored : (c input : List ℕ) (y : ℕ) (cs : List ℕ) → Word y → (x : Result Session Cause) → opening_of x ≡ open_answer c input y cs → Stored WordSession (opening_begun x)
+opening_stored c input y cs wy (Ok s) e =
     session_words_lem s (opened_at c y cs) (opened_record c input y cs (record_of s) e) (opened_figures c y cs wy)
-opening_stored c input y cs wy (opening.Refused cause) e = tt
+opening_stored c input y cs wy (Err cause) e = tt
 
 module _ (F : Code) (keeps : KeepsContracts F) where
   simulates : Simulates (of_code F) WordSession record_of

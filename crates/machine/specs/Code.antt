@@ -1,37 +1,32 @@
 -- Functions of the code's own types, what it means that they keep the contracts of check, open, step, prove and prove_one, and the machine that
 -- they are.
 -- Assumes nothing.
-use Rattle.std.specs.Prelude.{ℕ, ◌≡◌, List}
-use Rattle.refusal.specs.Number.{number_of}
+use Rattle.std.specs.Prelude.{ℕ, ◌≡◌, ⊤, List, Result, Ok, Err}
+use Rattle.refusal.specs.Number.{number_of, cause_of}
+use Rattle.refusal.specs.declared.Cause.{Cause}
 use Rattle.walk.specs.Session.{Answer, accepted, refused}
 use Rattle.protocol.specs.Check.{check_answer}
 use Rattle.protocol.specs.Session.{open_answer}
 use Rattle.session.specs.Answers.{opening_of, verdict_of, Steps}
 use Rattle.session.specs.declared.Session.{Session}
-use Rattle.session.specs.declared.Opening.{Opening}
-use Rattle.session.specs.declared.Opening.TheVariants as opening
 use Rattle.session.specs.declared.Stepped.{Stepped}
-use Rattle.verifier.specs.Answers.{outcome_of}
-use Rattle.verifier.specs.declared.Outcome.{Outcome}
-use Rattle.verifier.specs.declared.Outcome.TheVariants as outcome
 use Rattle.prover.specs.Answers.{proved_of, Proves, message_of, ProvesOne}
-use Rattle.prover.specs.declared.Proved.{Proved}
-use Rattle.prover.specs.declared.Message.{Message}
+use Rattle.prover.specs.declared.Proof.{Proof}
 use Rattle.machine.specs.Words.{Word, Words, WordLists}
 use Rattle.machine.specs.Machine.{Begun, begun, declined, Machine}
 
 pub record Code : Type 0 where
-  pub check : List ℕ → List ℕ → ℕ → List ℕ → List ℕ → Outcome
-  pub begin : List ℕ → List ℕ → ℕ → List ℕ → Opening
+  pub check : List ℕ → List ℕ → ℕ → List ℕ → List ℕ → Result ⊤ Cause
+  pub begin : List ℕ → List ℕ → ℕ → List ℕ → Result Session Cause
   pub step : List ℕ → List ℕ → List ℕ → Session → List ℕ → Stepped
-  pub prove : List ℕ → List ℕ → List ℕ → List ℕ → Proved × List ℕ
-  pub prove_one : List ℕ → List ℕ → List ℕ → List ℕ → Message × List ℕ
+  pub prove : List ℕ → List ℕ → List ℕ → List ℕ → Result Proof Cause × List ℕ
+  pub prove_one : List ℕ → List ℕ → List ℕ → List ℕ → Result ℕ Cause × List ℕ
 
 -- THE CONTRACTS, as they stand in the code after `ensures`
-abbrev pub Checks : List ℕ → List ℕ → ℕ → List ℕ → List ℕ → Outcome → Type 0
-Checks c input y cs ms r = outcome_of r ≡ check_answer c input y cs ms
+abbrev pub Checks : List ℕ → List ℕ → ℕ → List ℕ → List ℕ → Result ⊤ Cause → Type 0
+Checks c input y cs ms r = cause_of r ≡ check_answer c input y cs ms
 
-abbrev pub Opens : List ℕ → List ℕ → ℕ → List ℕ → Opening → Type 0
+abbrev pub Opens : List ℕ → List ℕ → ℕ → List ℕ → Result Session Cause → Type 0
 Opens c input y cs r = opening_of r ≡ open_answer c input y cs
 
 -- a value of the code's type `Session` has words as its figures
@@ -53,13 +48,13 @@ pub record KeepsContracts (F : Code) : Type 0 where
       → ProvesOne c input prefix buffer (F.prove_one c input prefix buffer).0 (F.prove_one c input prefix buffer).1
 
 -- THE MACHINE: answers by their case, and a session is kept in the code's own record
-abbrev pub outcome_answer : Outcome → Answer
-outcome_answer outcome.Accepted = accepted
-outcome_answer (outcome.Refused cause) = refused (number_of cause)
+abbrev pub outcome_answer : Result ⊤ Cause → Answer
+outcome_answer (Ok _) = accepted
+outcome_answer (Err cause) = refused (number_of cause)
 
-abbrev pub opening_begun : Opening → Begun Session
-opening_begun (opening.Opened s) = begun s
-opening_begun (opening.Refused cause) = declined (number_of cause)
+abbrev pub opening_begun : Result Session Cause → Begun Session
+opening_begun (Ok s) = begun s
+opening_begun (Err cause) = declined (number_of cause)
 
 unfoldable pub of_code : Code → Machine Session
 of_code F = record {

@@ -2,23 +2,22 @@
 -- `KeepsContracts` and `KeepsExports` say of it; and what is asked of a caller, by a `requires`, is nothing. A weaker `ensures` does not fit, and
 -- no `requires` does. `Dens` are the arguments, `AtExit` what is lent, when the call is over.
 -- Assumes nothing.
-use Rattle.std.specs.Prelude.{ℕ}
+use Rattle.std.specs.Prelude.{ℕ, ⊤, Result}
 use contract.Lifetimes.{Lfts}
 use borrow.Fn.Kinds.{Dens, ended_of}
 use denote.Triple.Clauses.{AtExit}
+use Rattle.refusal.specs.declared.Cause.{Cause}
 use Rattle.session.specs.Answers.{Steps}
-use Rattle.session.specs.declared.Opening.{Opening}
+use Rattle.session.specs.declared.Session.{Session}
 use Rattle.session.specs.declared.Stepped.{Stepped}
 use Rattle.session.proofs.«open».Kinds as opening
 use Rattle.session.proofs.«open».Reads as opens
 use Rattle.session.proofs.step.Kinds as stepping
 use Rattle.session.proofs.step.Reads as steps
-use Rattle.verifier.specs.declared.Outcome.{Outcome}
 use Rattle.verifier.proofs.check.Kinds as checking
 use Rattle.verifier.proofs.check.Reads as checks
 use Rattle.prover.specs.Answers.{Proves, ProvesOne}
-use Rattle.prover.specs.declared.Proved.{Proved}
-use Rattle.prover.specs.declared.Message.{Message}
+use Rattle.prover.specs.declared.Proof as whole
 use Rattle.prover.proofs.prove.Kinds as proving
 use Rattle.prover.proofs.prove.Reads as proves
 use Rattle.prover.proofs.prove_one.Kinds as proving-one
@@ -42,19 +41,19 @@ use Rattle.machine.specs.Exported.{ExportsCheck}
 
 pub record ContractsSay : Type 0 where
   -- THE OPERATIONS
-  pub check : (κs : Lfts 4) (a : Dens κs checking.ps) (x : Outcome) (e : AtExit (ended_of 4 checking.ps checking.r) κs) → checks.Learnt κs a x e
+  pub check : (κs : Lfts 4) (a : Dens κs checking.ps) (x : Result ⊤ Cause) (e : AtExit (ended_of 4 checking.ps checking.r) κs) → checks.Learnt κs a x e
       → Checks a.0.now a.1.0.now a.1.1.0 a.1.1.1.0.now a.1.1.1.1.0.now x
   pub check_asks : (κs : Lfts 4) (a : Dens κs checking.ps) → checks.Asked κs a
-  pub begin : (κs : Lfts 3) (a : Dens κs opening.ps) (x : Opening) (e : AtExit (ended_of 3 opening.ps opening.r) κs) → opens.Learnt κs a x e
+  pub begin : (κs : Lfts 3) (a : Dens κs opening.ps) (x : Result Session Cause) (e : AtExit (ended_of 3 opening.ps opening.r) κs) → opens.Learnt κs a x e
       → Opens a.0.now a.1.0.now a.1.1.0 a.1.1.1.0.now x
   pub begin_asks : (κs : Lfts 3) (a : Dens κs opening.ps) → opens.Asked κs a
   pub step : (κs : Lfts 4) (a : Dens κs stepping.ps) (x : Stepped) (e : AtExit (ended_of 4 stepping.ps stepping.r) κs) → steps.Learnt κs a x e
       → Steps a.0.now a.1.0.now a.1.1.0.now a.1.1.1.0 a.1.1.1.1.0.now x
   pub step_asks : (κs : Lfts 4) (a : Dens κs stepping.ps) → steps.Asked κs a
-  pub prove : (κs : Lfts 4) (a : Dens κs proving.ps) (x : Proved) (e : AtExit (ended_of 4 proving.ps proving.r) κs) → proves.Learnt κs a x e
+  pub prove : (κs : Lfts 4) (a : Dens κs proving.ps) (x : Result whole.Proof Cause) (e : AtExit (ended_of 4 proving.ps proving.r) κs) → proves.Learnt κs a x e
       → Proves a.0.now a.1.0.now a.1.1.0.now a.1.1.1.0.now x e.1.1.1.0.now
   pub prove_asks : (κs : Lfts 4) (a : Dens κs proving.ps) → proves.Asked κs a
-  pub prove_one : (κs : Lfts 4) (a : Dens κs proving-one.ps) (x : Message) (e : AtExit (ended_of 4 proving-one.ps proving-one.r) κs)
+  pub prove_one : (κs : Lfts 4) (a : Dens κs proving-one.ps) (x : Result ℕ Cause) (e : AtExit (ended_of 4 proving-one.ps proving-one.r) κs)
       → proves_one.Learnt κs a x e
       → ProvesOne a.0.now a.1.0.now a.1.1.0.now a.1.1.1.0.now x e.1.1.1.0.now
   pub prove_one_asks : (κs : Lfts 4) (a : Dens κs proving-one.ps) → proves_one.Asked κs a
