@@ -39,7 +39,13 @@ fn compared(circuit: &[u32], place: Place, past: &[u32], message: &[u32]) -> u32
 
 // The one judgement of a message at its round: 14, 15, then 16 or 17.
 #[tactic(auto, unfolding(protocol::specs::Judge::judge))]
-pub fn judge(circuit: &[u32], place: Place, past: &[u32], claim: u32, message: &[u32]) -> Result<(), Cause>
+pub fn judge(
+    circuit: &[u32],
+    place: Place,
+    past: &[u32],
+    claim: u32,
+    message: &[u32],
+) -> Result<(), Cause>
     ensures { Judges circuit.now (as_place place) past.now claim message.now result }
 {
     if message.len() != place.message_length(circuit) {
