@@ -4,7 +4,7 @@ use mathlib.Core.Path.{◌≡◌, sym, ap, ◌∙◌}
 use mathlib.Core.List.{List, [], ◌∷◌, ◌++◌, map, flatten}
 use Prim.Native.Nat.{ℕ, zero, suc, ◌+◌, ◌<◌, min}
 use native.Mathlib.Nat.{zero-min, min-zero, suc-min-suc, not-suc-le-zero, le_of_suc-le-suc}
-use lib.ListN.{length, take, drop, get_or, length-take, length-append}
+use lib.ListN.{length, take, drop, get_or, length-append}
 use lib.Seq.{take-append_seam, drop-append_seam, drop-drop}
 use Rattle.lists.specs.Count.{sum}
 use Rattle.lists.proofs.Count.{sum_nil, sum_cons}
@@ -14,9 +14,6 @@ pub take_most : {A : Type 0} (n : ℕ) (l : List A) → take (min n (length l)) 
 take_most zero l = ap (λ k. take k l) (zero-min (length l))
 take_most {A} (suc n) [] = ap (λ (k : ℕ). take {A = A} k []) (min-zero (suc n))
 take_most (suc n) (x ∷ l) = ap (λ k. take k (x ∷ l)) (suc-min-suc n (length l)) ∙ ap (λ t. x ∷ t) (take_most n l)
-
-pub length_most : {A : Type 0} (k m n : ℕ) (l : List A) → length l ≡ m → n ≡ min k m → n ≡ length (take k l)
-length_most k m n l size e = e ∙ ap (min k) (sym size) ∙ sym (length-take k l)
 
 -- a list of lists, one after another: list i is where those before it end
 pub flatten_part : {A : Type 0} (ls : List (List A)) (i : ℕ) → i < length ls

@@ -1,15 +1,8 @@
-// Definitions and laws about lists; and what the other crates do with lists: a word of one, elements over the front of another, and the
-// smaller of two lengths, which callers clip a part of a list by.
+// Definitions and laws about lists; and what the other crates do with lists: a word of one, and items over the front of another.
 #![tactic(auto)]
 
 ghost use Rattle.std.specs.Prelude.{◌≡◌, ◌≤◌, min, length, take, get_or};
 ghost use Rattle.lists.specs.Buffer.{over};
-
-pub fn least(a: usize, b: usize) -> usize
-    ensures { result ≡ min a b }
-{
-    a.min(b)
-}
 
 // A list's word, 0 past its end.
 pub fn word(list: &[u32], at: usize) -> u32
