@@ -7,9 +7,12 @@ ghost use Rattle.std.specs.Prelude.{◌≡◌};
 ghost use Rattle.refusal.specs.Number.{cause_of};
 ghost use Rattle.circuit.specs.Legal.{load_answer};
 ghost use Rattle.protocol.specs.Check.{check_answer};
+ghost use Rattle.xdr.specs.Read.{answer_of};
+ghost use Rattle.evaluation.specs.Evaluate.{evaluation_of};
 ghost use Rattle.session.specs.Answers.{record_of, verdict_of};
+ghost use Rattle.prover.specs.Answers.{proved_of, message_of};
 ghost use Rattle.kidlothe.specs.Record.{session_of, session_words, words_of_step};
-ghost use Rattle.kidlothe.specs.Answers.{plain_step, ExportsEvaluate, ExportsRead, ExportsProve, ExportsProveOne, ExportsOpen, ExportsStep};
+ghost use Rattle.kidlothe.specs.Answers.{plain_evaluation, plain_counts, plain_proof, plain_written, plain_step, ExportsEvaluate, ExportsRead, ExportsProve, ExportsProveOne, ExportsOpen, ExportsStep};
 
 use refusal::Cause;
 use session::{Session, Verdict};
@@ -27,6 +30,20 @@ pub struct Evaluation {
     pub output: u32,
 }
 
+impl From<Result<u32, Cause>> for Evaluation {
+    ghost from_gives = { λ answer plain. plain ≡ plain_evaluation (evaluation_of answer) };
+
+    fn from(answer: Result<u32, Cause>) -> Evaluation {
+        match answer {
+            Ok(output) => Evaluation { refusal: 0, output },
+            Err(cause) => Evaluation {
+                refusal: cause.into(),
+                output: 0,
+            },
+        }
+    }
+}
+
 // What Read answers: a count for each of four arrays.
 #[repr(C)]
 #[derive(Clone, Copy)]
@@ -38,6 +55,32 @@ pub struct Counts {
     pub fourth: u32,
 }
 
+impl From<Result<[u32; 4], Cause>> for Counts {
+    ghost from_gives = { λ answer plain. plain ≡ plain_counts (answer_of answer) };
+
+    fn from(answer: Result<[u32; 4], Cause>) -> Counts {
+        match answer {
+            Ok(counts) => {
+                let [first, second, third, fourth] = counts;
+                Counts {
+                    refusal: 0,
+                    first,
+                    second,
+                    third,
+                    fourth,
+                }
+            }
+            Err(cause) => Counts {
+                refusal: cause.into(),
+                first: 0,
+                second: 0,
+                third: 0,
+                fourth: 0,
+            },
+        }
+    }
+}
+
 // What Prove answers for a whole proof.
 #[repr(C)]
 #[derive(Clone, Copy)]
@@ -47,12 +90,45 @@ pub struct Proof {
     pub words: usize,
 }
 
+impl From<Result<prover::Proof, Cause>> for Proof {
+    ghost from_gives = { λ answer plain. plain ≡ plain_proof (proved_of answer) };
+
+    fn from(answer: Result<prover::Proof, Cause>) -> Proof {
+        match answer {
+            Ok(proof) => Proof {
+                refusal: 0,
+                output: proof.output,
+                words: proof.words,
+            },
+            Err(cause) => Proof {
+                refusal: cause.into(),
+                output: 0,
+                words: 0,
+            },
+        }
+    }
+}
+
 // What Prove answers for one message.
 #[repr(C)]
 #[derive(Clone, Copy)]
 pub struct Written {
     pub refusal: u32,
     pub words: usize,
+}
+
+impl From<Result<usize, Cause>> for Written {
+    ghost from_gives = { λ answer plain. plain ≡ plain_written (message_of answer) };
+
+    fn from(answer: Result<usize, Cause>) -> Written {
+        match answer {
+            Ok(words) => Written { refusal: 0, words },
+            Err(cause) => Written {
+                refusal: cause.into(),
+                words: 0,
+            },
+        }
+    }
 }
 
 // What Step answers: a refusal, an acceptance, or the coin with which the session goes on.
@@ -64,13 +140,37 @@ pub struct Step {
     pub coin: u32,
 }
 
+impl From<Verdict> for Step {
+    ghost from_gives = { λ verdict step. step ≡ plain_step (verdict_of verdict) };
+
+    fn from(verdict: Verdict) -> Step {
+        match verdict {
+            Verdict::Accepted => Step {
+                refusal: 0,
+                accepted: 1,
+                coin: 0,
+            },
+            Verdict::GoOn(coin) => Step {
+                refusal: 0,
+                accepted: 0,
+                coin,
+            },
+            Verdict::Refused(cause) => Step {
+                refusal: cause.into(),
+                accepted: 0,
+                coin: 0,
+            },
+        }
+    }
+}
+
 // The number of a refusal, 0 for none.
 fn number(checked: Result<(), Cause>) -> u32
     ensures { result ≡ cause_of checked }
 {
     match checked {
         Ok(()) => 0,
-        Err(cause) => u32::from(cause),
+        Err(cause) => cause.into(),
     }
 }
 
@@ -85,58 +185,21 @@ pub fn kidlothe_load(circuit: &[u32]) -> u32
 pub fn kidlothe_evaluate(circuit: &[u32], input: &[u32], buffer: &mut [u32]) -> Evaluation
     ensures { ExportsEvaluate circuit.now input.now buffer.old result buffer.new }
 {
-    let evaluated = evaluation::evaluate(circuit, input, buffer);
-    match evaluated {
-        Ok(output) => Evaluation { refusal: 0, output },
-        Err(cause) => Evaluation {
-            refusal: u32::from(cause),
-            output: 0,
-        },
-    }
+    evaluation::evaluate(circuit, input, buffer).into()
 }
 
 // Read.
 pub fn kidlothe_read(bytes: &[u8], number: u32, buffer: &mut [u32]) -> Counts
     ensures { ExportsRead number bytes.now buffer.old result buffer.new }
 {
-    match xdr::read(bytes, number, buffer) {
-        Ok(counts) => {
-            let [first, second, third, fourth] = counts;
-            Counts {
-                refusal: 0,
-                first,
-                second,
-                third,
-                fourth,
-            }
-        }
-        Err(cause) => Counts {
-            refusal: u32::from(cause),
-            first: 0,
-            second: 0,
-            third: 0,
-            fourth: 0,
-        },
-    }
+    xdr::read(bytes, number, buffer).into()
 }
 
 // Prove, whole.
 pub fn kidlothe_prove(circuit: &[u32], input: &[u32], coins: &[u32], messages: &mut [u32]) -> Proof
     ensures { ExportsProve circuit.now input.now coins.now messages.old result messages.new }
 {
-    let proved = prover::prove(circuit, input, coins, messages);
-    match proved {
-        Ok(proof) => Proof {
-            refusal: 0,
-            output: proof.output,
-            words: proof.words,
-        },
-        Err(cause) => Proof {
-            refusal: u32::from(cause),
-            output: 0,
-            words: 0,
-        },
-    }
+    prover::prove(circuit, input, coins, messages).into()
 }
 
 // Prove, one message.
@@ -148,14 +211,7 @@ pub fn kidlothe_prove_one(
 ) -> Written
     ensures { ExportsProveOne circuit.now input.now prefix.now buffer.old result buffer.new }
 {
-    let message = prover::prove_one(circuit, input, prefix, buffer);
-    match message {
-        Ok(words) => Written { refusal: 0, words },
-        Err(cause) => Written {
-            refusal: u32::from(cause),
-            words: 0,
-        },
-    }
+    prover::prove_one(circuit, input, prefix, buffer).into()
 }
 
 // Check, whole: 0 is accepted.
@@ -171,15 +227,17 @@ pub fn kidlothe_check(
     number(verifier::check(circuit, input, output, coins, messages))
 }
 
-// The record that four words stand for.
+// The record that four words stand for. A function, since neither the record nor an array is a type of this crate, so that no From can be
+// written for them here.
 fn session_of(words: &[u32; SESSION_WORDS]) -> Session
     ensures { record_of result ≡ session_of words.now }
 {
+    let [layer, round, claim, open] = *words;
     Session {
-        layer: words[0],
-        round: words[1],
-        claim: words[2],
-        open: words[3] == OPEN,
+        layer,
+        round,
+        claim,
+        open: open == OPEN,
     }
 }
 
@@ -187,13 +245,12 @@ fn session_of(words: &[u32; SESSION_WORDS]) -> Session
 fn session_words(session: Session) -> [u32; SESSION_WORDS]
     ensures { result ≡ session_words (record_of session) }
 {
-    let layer = session.layer;
-    let round = session.round;
-    let claim = session.claim;
-    if session.open {
-        return [layer, round, claim, OPEN];
-    }
-    [layer, round, claim, 0]
+    [
+        session.layer,
+        session.round,
+        session.claim,
+        u32::from(session.open),
+    ]
 }
 
 // The words after a step, from the record after it. Those of a record that was not open stay, whatever they are.
@@ -201,9 +258,10 @@ fn step_words(before: &[u32; SESSION_WORDS], after: Session) -> [u32; SESSION_WO
     ensures { result ≡ words_of_step before.now (record_of after) }
 {
     if before[3] == OPEN {
-        return session_words(after);
+        session_words(after)
+    } else {
+        *before
     }
-    *before
 }
 
 // Open session: 0 is opened.
@@ -223,30 +281,6 @@ pub fn kidlothe_open(
             0
         }
         Err(cause) => u32::from(cause),
-    }
-}
-
-impl From<Verdict> for Step {
-    ghost from_gives = { λ verdict step. step ≡ plain_step (verdict_of verdict) };
-
-    fn from(verdict: Verdict) -> Step {
-        match verdict {
-            Verdict::Accepted => Step {
-                refusal: 0,
-                accepted: 1,
-                coin: 0,
-            },
-            Verdict::GoOn(coin) => Step {
-                refusal: 0,
-                accepted: 0,
-                coin,
-            },
-            Verdict::Refused(cause) => Step {
-                refusal: u32::from(cause),
-                accepted: 0,
-                coin: 0,
-            },
-        }
     }
 }
 
