@@ -33,7 +33,8 @@ returns-in_err-count c =
     let l = c.loop-count.rest.now in
     let inv = c.loop-count.invariant in
     let no = unfit (whole l) (first_word l) c.front.result _ _ c.front.ensures (c.in_err-count.ensures {u = tt}).value in
-    let all = called_some c.args.number c.args.bytes.now (omega arith) (omega arith) ∙ inv.3 ∙ ap (after inv.0) (arrays_none _ l (omega (arith, length-take c.args.number zeros)) no.0) in
+    let found = called_some c.args.number c.args.bytes.now (omega arith) (omega arith) ∙ inv.3 in
+    let all = found ∙ ap (after inv.0) (arrays_none _ l (omega (arith, length-take c.args.number zeros)) no.0) in
     let none = refused_found all in
     grind (arith, common_steps, none, no.1)
 
@@ -61,12 +62,14 @@ pub returns-then-not-is_empty : goal.returns-then-not-is_empty
 returns-then-not-is_empty c =
     let l = c.loop-count.rest.now in
     let inv = c.loop-count.invariant in
-    let all = called_some c.args.number c.args.bytes.now (omega arith) (omega arith) ∙ inv.3 ∙ ap (after inv.0) (arrays_left_over _ l (omega (arith, length-take c.args.number zeros)) (grind arith)) in
+    let found = called_some c.args.number c.args.bytes.now (omega arith) (omega arith) ∙ inv.3 in
+    let all = found ∙ ap (after inv.0) (arrays_left_over _ l (omega (arith, length-take c.args.number zeros)) (grind arith)) in
     sym (refused_found all)
 
 pub returns : goal.returns
 returns c =
     let l = c.loop-count.rest.now in
     let inv = c.loop-count.invariant in
-    let all = called_some c.args.number c.args.bytes.now (omega arith) (omega arith) ∙ inv.3 ∙ ap (after inv.0) (arrays_end _ l (omega (arith, length-take c.args.number zeros)) (grind arith)) ∙ ap some (append-nil inv.0) in
+    let found = called_some c.args.number c.args.bytes.now (omega arith) (omega arith) ∙ inv.3 in
+    let all = found ∙ ap (after inv.0) (arrays_end _ l (omega (arith, length-take c.args.number zeros)) (grind arith)) ∙ ap some (append-nil inv.0) in
     counts_found inv.0 c.loop-count.count-items c.args.number (omega arith) (omega (arith, length-take c.args.number zeros)) inv.2 ∙ ap counts_of (sym all)

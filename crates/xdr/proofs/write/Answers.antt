@@ -14,7 +14,8 @@ loop-init c = ([], refl, refl, rw sub-zero (omega arith), rw sub-zero c.requires
 pub split_at-requires : goal.split_at-requires
 split_at-requires c =
     let here = c.loop in
-    let s = step (c.args.number - here.counter) (c.args.number - (here.counter + 1)) c.first_word.result here.rest.now _ (omega arith) here.invariant.4 c.first_word.ensures refl in
+    let left = c.args.number - here.counter in
+    let s = step left (c.args.number - (here.counter + 1)) c.first_word.result here.rest.now _ (omega arith) here.invariant.4 c.first_word.ensures refl in
     omega arith
 
 pub slice_bounds-put_words-start-in-loop : goal.slice_bounds-put_words-start-in-loop
@@ -29,7 +30,8 @@ loop-preserved c =
     let l = here.rest.now in
     let behind = c.split_at.ensures.back ∙ ap (λ (n : ℕ). drop n l) c.size.ensures in
     let array = c.split_at.ensures.front ∙ ap (λ (n : ℕ). take n l) c.size.ensures in
-    let s = step (c.args.number - here.counter) (c.args.number - (here.counter + 1)) c.first_word.result l _ (omega arith) inv.4 c.first_word.ensures behind in
+    let left = c.args.number - here.counter in
+    let s = step left (c.args.number - (here.counter + 1)) c.first_word.result l _ (omega arith) inv.4 c.first_word.ensures behind in
     let buffer = c.args.buffer.now in
     let ws = front l in
     let lent = take (length here.buffer - here.to) (drop here.to here.buffer) in
