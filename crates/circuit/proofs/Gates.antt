@@ -8,14 +8,12 @@ use native.Mathlib.Numerals.{add-one}
 use native.Mathlib.Omega.{arith}
 use lib.ListN.{length, length-drop, take, drop, get_or, drop_of_length-le}
 use lib.Seq.{drop-cons, drop-drop, length-take-le, take_all}
-use Rattle.lists.proofs.Buffer.{rest_lent}
 use Rattle.refusal.specs.Order.{first}
-use Rattle.circuit.specs.Limits.{max_gates}
 use Rattle.circuit.specs.Gate.{Gate}
 use Rattle.circuit.specs.Circuit.{depth, exponents, exponent_at, output_exponent, width_of, gates_of, layers_of, gate_count, gates_start, gate_words, gate_layers, gates_before, gates_at, word_count}
 use Rattle.circuit.specs.Legal.{gates_cause, layers_cause}
 use Rattle.circuit.specs.Sized.{Exponents, Sized}
-use Rattle.circuit.proofs.Sized.{count_few, exponent_width}
+use Rattle.circuit.proofs.Sized.{exponent_width}
 use Rattle.circuit.proofs.Legal.{length_gates, gates_part}
 
 -- the gates of the first layers, one layer more
@@ -38,10 +36,6 @@ count_none c = refl
 -- all words of the gates from gate number i on
 abbrev pub gates_from : List ℕ → ℕ → List ℕ
 gates_from c i = drop (3 * i) (drop (gates_start c) c)
-
--- the same, lent from the words of all gates
-pub gates_lent : (c gates : List ℕ) (i : ℕ) → gates ≡ drop (gates_start c) c → take (length gates - 3 * i) (drop (3 * i) gates) ≡ gates_from c i
-gates_lent c gates i e = rest_lent gates (3 * i) (length gates) refl ∙ ap (drop (3 * i)) e
 
 layer_in : (k : ℕ) (ks ws : List ℕ) (l : ℕ) → l < length ks
     → get_or (layers_of k ks ws) l [] ≡ gates_of (2 ^ get_or (k ∷ ks) l 0) (drop (3 * gate_count k (take l ks)) ws)
@@ -71,9 +65,6 @@ module _ (c : List ℕ) (h : Exponents c) where
   layer_count l n =
       ap length (layer_in (output_exponent c) (exponents c) (drop (gates_start c) c) l (omega (arith, h.whole)))
       ∙ length_gates (2 ^ exponent_at c l) (drop (3 * gates_before c l) (drop (gates_start c) c))
-
-  pub before_few : (l : ℕ) → gates_before c l ≤ max_gates
-  before_few l = let all = count_few c h in omega (arith, count_part (output_exponent c) (exponents c) l)
 
   -- the count so far, in a loop over the layers
   pub count_turn : (i count k w : ℕ) → i < depth c → count ≡ gates_before c i → k ≡ exponent_at c i → w ≡ width_of k → count + w ≡ gates_before c (i + 1)

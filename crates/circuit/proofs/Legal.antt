@@ -7,34 +7,20 @@ use mathlib.Core.List.{List, [], ◌∷◌}
 use native.Mathlib.Nat.{add-zero, sub-zero, suc-sub-suc}
 use native.Mathlib.Omega.{arith}
 use lib.Dec.{ltb, leb, eqb}
-use lib.ListN.{length, get_or, take, drop, drop_of_length-le}
+use lib.ListN.{length, get_or, take, drop}
 use lib.Seq.{drop-drop, get_or-drop, get_or-take, take-nil}
 use borrow.Author.Tests.{lt-ltb, le-ltb, lt-leb, le-leb, eq-eqb, ne_eqb, ltb-true}
 use Rattle.refusal.specs.Order.{need, first}
-use Rattle.lists.proofs.Steps.{drop_up}
 use Rattle.refusal.proofs.Order.{need_none}
 use Rattle.circuit.specs.Gate.{Gate, gate, max_kind}
 use Rattle.circuit.specs.Circuit.{gates_of}
 use Rattle.circuit.specs.Legal.{all_below, wires_good, gate_cause, gates_cause}
 
--- WORDS BELOW A BOUND, from place i on
-below_at : (p : ℕ) (ws : List ℕ) (i : ℕ) → i < length ws → all_below p (drop i ws) ≡ (ltb (get_or ws i 0) p && all_below p (drop (i + 1) ws))
-unfolding all_below
-below_at p ws i h = rw (drop_up ws i 0 h)
+-- WORDS BELOW A BOUND
 
 -- what a test of the words said, with the bound as the code has it
 pub below_told : (ws : List ℕ) {p q : ℕ} {b : Bool} → p ≡ q → b ≡ all_below p ws → all_below q ws ≡ b
 below_told ws e told = sym (ap (λ (n : ℕ). all_below n ws) e) ∙ sym told
-
-pub below_fails : (p : ℕ) (ws : List ℕ) (i : ℕ) → i < length ws → p ≤ get_or ws i 0 → all_below p (drop i ws) ≡ false
-below_fails p ws i h l = below_at p ws i h ∙ ap (λ (b : Bool). b && all_below p (drop (i + 1) ws)) (le-ltb (get_or ws i 0) p l)
-
-pub below_goes_on : (p : ℕ) (ws : List ℕ) (i : ℕ) → i < length ws → get_or ws i 0 < p → all_below p (drop i ws) ≡ all_below p (drop (i + 1) ws)
-below_goes_on p ws i h l = below_at p ws i h ∙ ap (λ (b : Bool). b && all_below p (drop (i + 1) ws)) (lt-ltb (get_or ws i 0) p l)
-
-pub below_ends : (p : ℕ) (ws : List ℕ) (i : ℕ) → length ws ≤ i → all_below p (drop i ws) ≡ true
-unfolding all_below
-below_ends p ws i h = ap (all_below p) (drop_of_length-le ws h)
 
 -- A GATE, by its words; a wire that is bad is refused, whatever the other is
 refuses : (b : Bool) → need (b && false) 7 0 ≡ 7
@@ -102,10 +88,6 @@ gates_at_lem next count i ws h =
     let more : count - i ≡ suc (count - (i + 1)) = omega arith in
     let on : 3 * (i + 1) ≡ 3 * i + 3 = omega arith in
     rw (more, on, gates_cons (count - (i + 1)) (3 * i) ws)
-
-pub gates_end : (next count i : ℕ) (ws : List ℕ) → count ≤ i → gates_cause next (gates_of (count - i) ws) ≡ 0
-unfolding gates_cause gates_of
-gates_end next count i ws h = let none : count - i ≡ 0 = omega arith in rw none
 
 pub length_gates : (n : ℕ) (ws : List ℕ) → length (gates_of n ws) ≡ n
 unfolding gates_of

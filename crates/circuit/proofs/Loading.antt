@@ -1,8 +1,8 @@
 -- Load's answer, refusal by refusal, in the order in which they are tried.
 -- Assumes nothing.
 use Prim.Native.Nat.{ℕ, ◌+◌, ◌^◌, ◌≤◌, ◌<◌}
-use mathlib.Core.Path.{◌≡◌, refl, sym, ap, ◌∙◌}
-use mathlib.Core.Bool.{Bool, true, false, not, ◌&&◌, false≢true}
+use mathlib.Core.Path.{◌≡◌, refl, ap, ◌∙◌}
+use mathlib.Core.Bool.{Bool, true, false, ◌&&◌, false≢true}
 use mathlib.Core.List.{List, [], ◌∷◌}
 use lib.Dec.{eqb, leb}
 use lib.ListN.{length}
@@ -16,21 +16,6 @@ use Rattle.circuit.specs.Gate.{Gate, max_kind}
 use Rattle.circuit.specs.Circuit.{prime_of, depth, exponents, gate_layers, word_count, input_count}
 use Rattle.circuit.specs.Legal.{all_below, depth_good, exponents_good, wires_good, gate_cause, gates_cause, layers_cause, load_answer, input_cause, lists_cause}
 use Rattle.circuit.specs.Sized.{Exponents, LegalCircuit}
-
--- a test that the code negates
-pub not_true : {b : Bool} → not b ≡ true → b ≡ false
-not_true {b} e = go b e
-  where
-    go : (x : Bool) → not x ≡ true → x ≡ false
-    go true f = absurd (false≢true f)
-    go false f = refl
-
-pub not_false : {b : Bool} → not b ≡ false → b ≡ true
-not_false {b} e = go b e
-  where
-    go : (x : Bool) → not x ≡ false → x ≡ true
-    go true f = refl
-    go false f = absurd (false≢true (sym f))
 
 both_true : {a b : Bool} → a ≡ true → b ≡ true → (a && b) ≡ true
 both_true {a} {b} e f = ap (λ (x : Bool). x && b) e ∙ f

@@ -8,12 +8,12 @@ use native.Mathlib.Nat.{zero-add, suc-add, two-pow-succ, le_of_suc-le-suc}
 use native.Mathlib.Omega.{arith}
 use native.Mathlib.Decide.{dec_le}
 use lib.ListN.{length, take, drop, get_or, length-append, length-map, length-drop, get_or-append}
-use lib.Seq.{length-take-le, get_or-take, get_or-drop, get_or-append-add}
+use lib.Seq.{length-take-le, get_or-append-add}
 use Rattle.lists.proofs.Map.{map_append, get_d_map_lt}
 use Rattle.algebra.specs.Numbers.{Numbers}
 use Rattle.algebra.specs.Hom.{Hom}
 use Rattle.algebra.proofs.Hom.{hom_sub, hom_mul}
-use Rattle.multilinear.specs.Extension.{bits, weight_of_bits, weight, between, corner, blend, fold}
+use Rattle.multilinear.specs.Extension.{bits, weight_of_bits, weight, corner, blend, fold}
 use Rattle.multilinear.specs.Tables.{weights, folded, Listed, WeightsLength, FoldedEntry, WeightsKept, FoldedKept}
 use Rattle.multilinear.proofs.Weight.{weight_low, weight_high}
 use Rattle.multilinear.proofs.Extension.{half, length_corner, at_corner}
@@ -73,29 +73,12 @@ module _ {C : Type 0} (N : Numbers C) where
   length_blend r (a ∷ low) [] h = absurd (omega arith)
   length_blend r (a ∷ low) (b ∷ high) h = ap suc (length_blend r low high (le_of_suc-le-suc h))
 
-  get_d_blend : (r : C) (low high : List C) (b : ℕ) (d : C) → b < length low → b < length high
-      → get_or (blend N r low high) b d ≡ between N r (get_or low b d) (get_or high b d)
-  unfolding blend
-  get_d_blend r [] high b d h h' = absurd (omega arith)
-  get_d_blend r (x ∷ low) [] b d h h' = absurd (omega arith)
-  get_d_blend r (x ∷ low) (y ∷ high) zero d h h' = refl
-  get_d_blend r (x ∷ low) (y ∷ high) (suc b) d h h' = get_d_blend r low high b d (le_of_suc-le-suc h) (le_of_suc-le-suc h')
-
   pub length_fold : (r : C) (vs : List C) → length (fold N r vs) ≡ length vs / 2
   unfolding fold
   length_fold r vs =
       let low : length (take (length vs / 2) vs) ≡ length vs / 2 = length-take-le (length vs / 2) vs (omega arith) in
       let high : length (drop (length vs / 2) vs) ≡ length vs - length vs / 2 = length-drop (length vs / 2) vs in
       length_blend r (take (length vs / 2) vs) (drop (length vs / 2) vs) (omega arith) ∙ low
-
-  pub get_d_fold : (r : C) (vs : List C) (b : ℕ) (d : C) → b < length vs / 2
-      → get_or (fold N r vs) b d ≡ between N r (get_or vs b d) (get_or vs (length vs / 2 + b) d)
-  unfolding fold
-  get_d_fold r vs b d h =
-      let low : length (take (length vs / 2) vs) ≡ length vs / 2 = length-take-le (length vs / 2) vs (omega arith) in
-      let high : length (drop (length vs / 2) vs) ≡ length vs - length vs / 2 = length-drop (length vs / 2) vs in
-      get_d_blend r (take (length vs / 2) vs) (drop (length vs / 2) vs) b d (omega arith) (omega arith)
-      ∙ ap₂ (between N r) (get_or-take (length vs / 2) vs b d h) (get_or-drop (length vs / 2) vs b d)
 
   -- one variable after another
   pub folded_none : (vs : List C) → folded N [] vs ≡ vs

@@ -12,14 +12,6 @@ use native.Mathlib.Decide.{dec_le, ℕ_discrete}
 use lib.Dec.{T, eqb, ltb, leb, eqb_refl, eqb→eq, ltb→lt, leb→le, lt→ltb, T_not}
 use Rattle.primes.specs.Prime.{Prime, listed, is_one_of, ListedArePrime, is_listed}
 
-pub one_of_nil : (p : ℕ) → is_one_of [] p ≡ false
-unfolding is_one_of
-one_of_nil p = refl
-
-pub one_of_cons : (q : ℕ) (l : List ℕ) (p : ℕ) → is_one_of (q ∷ l) p ≡ (eqb p q || is_one_of l p)
-unfolding is_one_of
-one_of_cons q l p = refl
-
 -- d divides p and is smaller
 splits : ℕ → ℕ → Bool
 splits p d = eqb (p % d) 0 && ltb d p

@@ -13,7 +13,8 @@ ghost use Rattle.printing.specs.Limits.{max_bytes};
 ghost use Rattle.printing.specs.Printed.{refused_text};
 
 use refusal::Cause;
-use std::io::{self, Read};
+use std::io;
+use std::io::Read;
 
 // The bytes that may be read, and the words that they hold.
 pub const MAX_BYTES: usize = 65536;
