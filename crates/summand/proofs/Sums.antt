@@ -1,84 +1,83 @@
 -- The sums over the gates of each kind, in one pass, and the summand from them. A gate is of one kind, and to the other sums it adds 0.
 -- Assumes nothing.
-use mathlib.Core.Path.{◌≡◌, refl, sym, ap, ap₂, ◌∙◌}
+use mathlib.Core.Path.{◌≡◌, refl, sym, ap, ◌∙◌}
 use mathlib.Core.Logic.{◌≢◌}
 use mathlib.Core.Bool.{Bool, true, false, cond}
 use mathlib.Core.List.{List}
-use Prim.Native.Nat.{ℕ, suc, ◌+◌, ◌-◌, ◌*◌, ◌%◌, ◌≤◌, ◌<◌}
+use Prim.Native.Nat.{ℕ, suc, ◌+◌, ◌*◌, ◌%◌, ◌≤◌, ◌<◌}
 use native.Mathlib.Nat.{zero-add, zero-mul, zero-mod, mod-eq_of_lt}
 use native.Mathlib.Numerals.{add-one}
 use native.Mathlib.Omega.{arith}
 use borrow.Author.Tests.{eq-eqb, ne_eqb, eqb-true, eqb-false}
 use lib.Dec.{eqb}
-use lib.ListN.{length, drop, get_or, set, replicate, length-set, get_or-replicate, drop_of_length-le}
-use lib.Seq.{drop-cons, get_or-set_same, get_or-set_other, ext_get_or}
+use lib.ListN.{length, take, get_or, set, replicate, length-set, get_or-replicate}
+use lib.Seq.{get_or-set_same, get_or-set_other, ext_get_or}
 use Rattle.lists.proofs.Map.{get_d_map_lt}
 use Rattle.algebra.specs.Numbers.{Numbers, words}
 use Rattle.multilinear.specs.Extension.{sum_from}
 use Rattle.multilinear.proofs.Words.{sum_from_below}
-use Rattle.circuit.specs.Gate.{Gate, kinds, max_kind, operate}
+use Rattle.circuit.specs.Gate.{Gate, gate, kinds, max_kind, operate}
 use Rattle.circuit.proofs.Operate.{kind_at}
 use Rattle.sumcheck.specs.Summand.{gate_weight, wiring, combined}
 use Rattle.summand.specs.Gates.{wirings, by_kinds}
-use Rattle.summand.proofs.Passes.{none, sum_rest, rest_none, rest_step}
+use Rattle.summand.proofs.Passes.{sum_to, to_none, to_next, to_all}
 
 plus_zero : (p n : ℕ) → n < p → (0 + n) % p ≡ n
 plus_zero p n h = ap (λ (m : ℕ). m % p) (zero-add n) ∙ mod-eq_of_lt h
 
 -- ALL KINDS IN ONE PASS, on words
+abbrev pub none : Gate
+none = gate 0 0 0
+
 module _ (p : ℕ) (gs : List Gate) (point u v : List ℕ) where
   -- what a gate counts in the sum over the gates of a kind
   abbrev counted : ℕ → ℕ → Gate → ℕ
   counted kind a g = cond (eqb g.kind kind) (gate_weight (words p) point u v a g.left g.right) 0
 
-  -- the sum over those from a on
-  abbrev kind_on : ℕ → ℕ → ℕ
-  kind_on kind a = sum_rest (words p) (counted kind) gs a
+  -- the sum over the first a of them
+  abbrev kind_to : ℕ → ℕ → ℕ
+  kind_to kind a = sum_to p (counted kind) none gs a
 
   pub record Passed (sums : List ℕ) (a : ℕ) : Type 0 where
     pub positive : 0 < p
-    pub within : a ≤ length gs
     pub sized : length sums ≡ max_kind
-    pub each : (i : ℕ) → i < max_kind → get_or sums i 0 ≡ kind_on (suc i) a
+    pub each : (i : ℕ) → i < max_kind → get_or sums i 0 ≡ kind_to (suc i) a
 
-  pub start : 0 < p → Passed (replicate max_kind 0) (length gs)
+  pub start : 0 < p → Passed (replicate max_kind 0) 0
   start pos = record {
     positive = pos;
-    within = omega arith;
     sized = refl;
-    each = λ i h. get_or-replicate {A = ℕ} max_kind i 0 0 h ∙ rest_none (words p) (counted (suc i)) gs (length gs) (omega arith);
+    each = λ i h. get_or-replicate {A = ℕ} max_kind i 0 0 h ∙ to_none p (counted (suc i)) none gs;
   }
 
-  module _ {sums : List ℕ} {a : ℕ} (h : Passed sums a) (more : 0 < a) {g : Gate} (is : get_or gs (a - 1) none ≡ g) where
-    step : (kind x : ℕ) → x ≡ counted kind (a - 1) g → (x + kind_on kind a) % p ≡ kind_on kind (a - 1)
-    step kind x e = rest_step (words p) (counted kind) gs a g x (kind_on kind a) more h.within is e refl
+  module _ {sums : List ℕ} {a : ℕ} (h : Passed sums a) (more : a < length gs) {g : Gate} (is : get_or gs a none ≡ g) where
+    step : (kind x : ℕ) → x ≡ counted kind a g → (x + kind_to kind a) % p ≡ kind_to kind (a + 1)
+    step kind x e = to_next p (counted kind) none gs a g x (kind_to kind a) more is e refl
 
     -- a gate of another kind
-    other_kind : (kind : ℕ) → g.kind ≢ kind → kind_on kind a ≡ kind_on kind (a - 1)
+    other_kind : (kind : ℕ) → g.kind ≢ kind → kind_to kind a ≡ kind_to kind (a + 1)
     other_kind kind ne =
-        sym (plus_zero p (kind_on kind a) (sum_from_below p h.positive (counted kind) a (drop a gs)))
+        sym (plus_zero p (kind_to kind a) (sum_from_below p h.positive (counted kind) 0 (take a gs)))
         ∙ step kind 0 (simp (ne_eqb g.kind kind ne))
 
     -- the gate's kind has no sum
-    pub none_counts : ((i : ℕ) → i < max_kind → g.kind ≢ suc i) → Passed sums (a - 1)
+    pub none_counts : ((i : ℕ) → i < max_kind → g.kind ≢ suc i) → Passed sums (a + 1)
     none_counts apart = record {
       positive = h.positive;
-      within = let w = h.within in omega arith;
       sized = h.sized;
       each = λ i l. h.each i l ∙ other_kind (suc i) (apart i l);
     }
 
     -- it has one, and the gate's weight is added there
-    pub one_counts : {i w : ℕ} → g.kind ≡ suc i → i < max_kind → w ≡ gate_weight (words p) point u v (a - 1) g.left g.right
-        → Passed (set sums i ((w + get_or sums i 0) % p)) (a - 1)
+    pub one_counts : {i w : ℕ} → g.kind ≡ suc i → i < max_kind → w ≡ gate_weight (words p) point u v a g.left g.right
+        → Passed (set sums i ((w + get_or sums i 0) % p)) (a + 1)
     one_counts {i} {w} kind inside weighed = record {
       positive = h.positive;
-      within = let w = h.within in omega arith;
       sized = length-set sums i _ ∙ h.sized;
       each = λ j m. at j m (eqb j i) refl;
     }
       where
-        at : (j : ℕ) → j < max_kind → (b : Bool) → eqb j i ≡ b → get_or (set sums i ((w + get_or sums i 0) % p)) j 0 ≡ kind_on (suc j) (a - 1)
+        at : (j : ℕ) → j < max_kind → (b : Bool) → eqb j i ≡ b → get_or (set sums i ((w + get_or sums i 0) % p)) j 0 ≡ kind_to (suc j) (a + 1)
         at j m true e =
             rw (eqb-true j i e)
             (get_or-set_same sums i _ 0 (omega (arith, h.sized, inside)) ∙ ap (λ (s : ℕ). (w + s) % p) (h.each i inside)
@@ -87,59 +86,44 @@ module _ (p : ℕ) (gs : List Gate) (point u v : List ℕ) where
             let ne : j ≢ i = eqb-false j i e in
             get_or-set_other sums i j _ 0 ne ∙ h.each j m ∙ other_kind (suc j) (λ same. ne (omega (arith, kind)))
 
-  pub end : (sums : List ℕ) (a : ℕ) → Passed sums a → a ≡ 0 → sums ≡ wirings (words p) gs point u v
+  pub end : (sums : List ℕ) (a : ℕ) → Passed sums a → length gs ≤ a → sums ≡ wirings (words p) gs point u v
   unfolding wiring
   end sums a h e =
       ext_get_or 0 sums (wirings (words p) gs point u v) h.sized (λ i l.
       let m : i < max_kind = omega (arith, h.sized) in
-      h.each i m ∙ ap (kind_on (suc i)) e ∙ sym (get_d_map_lt whole kinds i 0 0 m ∙ ap whole (kind_at i m)))
+      h.each i m ∙ to_all p (counted (suc i)) none gs a e ∙ sym (get_d_map_lt whole kinds i 0 0 m ∙ ap whole (kind_at i m)))
     where
       whole : ℕ → ℕ
       whole kind = wiring (words p) kind gs point u v
 
--- FROM THE SUMS, kind by kind from the last
+-- FROM THE SUMS, kind by kind
 module _ (p : ℕ) (sums : List ℕ) (x y : ℕ) where
   abbrev term : ℕ → ℕ → ℕ
   term i sum = (words p).mul sum (operate (words p) (suc i) x y)
 
-  pub record Added (total i : ℕ) : Type 0 where
-    pub within : i ≤ max_kind
-    pub sized : length sums ≡ max_kind
-    pub total_is : total ≡ sum_from (words p) term i (drop i sums)
+  abbrev pub added : ℕ → ℕ
+  added i = sum_to p term 0 sums i
 
-  pub none_added : length sums ≡ max_kind → Added 0 max_kind
-  unfolding sum_from
-  none_added size = record {
-    within = omega arith;
-    sized = size;
-    total_is = ap (sum_from (words p) term max_kind) (sym (drop_of_length-le sums {i = max_kind} (omega arith)));
-  }
+  pub none_added : 0 ≡ added 0
+  none_added = to_none p term 0 sums
 
-  module _ (total i : ℕ) (h : Added total i) (some : 0 < i) where
-    pub one_added : (value more : ℕ) → value ≡ operate (words p) (i - 1 + 1) x y
-        → more ≡ (words p).add ((words p).mul (get_or sums (i - 1) 0) value) total → Added more (i - 1)
-    unfolding sum_from
-    one_added value more ev em =
-        let within = h.within in
-        let size = h.sized in
-        let again : suc (i - 1) ≡ i = omega arith in
-        record {
-          within = omega arith;
-          sized = size;
-          total_is = em ∙ ap₂ (λ (o t : ℕ). (words p).add ((words p).mul (get_or sums (i - 1) 0) o) t)
-              (ev ∙ ap (λ (k : ℕ). operate (words p) k x y) (add-one (i - 1)))
-              (h.total_is ∙ ap (λ (k : ℕ). sum_from (words p) term k (drop k sums)) (sym again))
-              ∙ sym (ap (sum_from (words p) term (i - 1)) (drop-cons sums (i - 1) 0 (omega arith)));
-        }
+  module _ (total i : ℕ) (more : i < length sums) (h : total ≡ added i) where
+    pub one_added : (value next : ℕ) → value ≡ operate (words p) (i + 1) x y → next ≡ (words p).add ((words p).mul (get_or sums i 0) value) total → next ≡ added (i + 1)
+    one_added value next ev en =
+        en ∙ to_next p term 0 sums i (get_or sums i 0) _ total more refl
+        (ap ((words p).mul (get_or sums i 0)) (ev ∙ ap (λ (k : ℕ). operate (words p) k x y) (add-one i))) h
 
     -- a sum that is 0 adds nothing
-    pub zero_added : 0 < p → get_or sums (i - 1) 0 ≡ 0 → Added total (i - 1)
+    pub zero_added : 0 < p → get_or sums i 0 ≡ 0 → total ≡ added (i + 1)
     zero_added pos e =
-        let value : ℕ = operate (words p) (i - 1 + 1) x y in
-        let below : total < p = rw h.total_is (sum_from_below p pos term i (drop i sums)) in
+        let value : ℕ = operate (words p) (i + 1) x y in
+        let below : total < p = rw h (sum_from_below p pos term 0 (take i sums)) in
         one_added value total refl
         (sym (ap (λ (n : ℕ). ((n * value) % p + total) % p) e ∙ ap (λ (n : ℕ). (n % p + total) % p) (zero-mul value)
         ∙ ap (λ (n : ℕ). (n + total) % p) (zero-mod p) ∙ plus_zero p total below))
+
+  pub all_added : (i : ℕ) → length sums ≤ i → added i ≡ by_kinds (words p) sums x y
+  all_added i h = to_all p term 0 sums i h
 
 -- the summand, from all of them
 pub from_sums : (N : Numbers ℕ) (gs : List Gate) (point u v : List ℕ) (x y : ℕ) → by_kinds N (wirings N gs point u v) x y ≡ combined N gs point u v x y

@@ -56,15 +56,14 @@ fn place(kind: u32) -> Option<usize>
     }
 }
 
-// The sums over the gates of each kind, in one pass from the last gate to the first. The weight of a gate that counts in none
+// The sums over the gates of each kind, in one pass. The weight of a gate that counts in none
 // is not computed.
 fn wirings(f: Field, gates: &[u32], point: &[u32], u: &[u32], v: &[u32]) -> [u32; KINDS]
     ensures { result ≡ wirings (numbers f) (gates_in gates.now) point.now u.now v.now }
 {
-    let triples = layout::gates(gates);
     let mut sums = [Field::ZERO; KINDS];
-    for a in (0..triples.len()).rev() {
-        let gate = Gate::from(triples[a]);
+    for (a, &words) in layout::gates(gates).iter().enumerate() {
+        let gate = Gate::from(words);
         if let Some(i) = place(gate.kind) {
             let weight = gate_weight(f, a, gate, point, u, v);
             sums[i] = f.add(weight, sums[i]);
@@ -73,13 +72,12 @@ fn wirings(f: Field, gates: &[u32], point: &[u32], u: &[u32], v: &[u32]) -> [u32
     sums
 }
 
-// The sums, each times what its kind does with x and y, from the last kind to the first. A kind whose sum is 0 costs no product.
+// The sums, each times what its kind does with x and y. A kind whose sum is 0 costs no product.
 fn by_kinds(f: Field, sums: [u32; KINDS], x: u32, y: u32) -> u32
     ensures { result ≡ by_kinds (numbers f) sums x y }
 {
     let mut total = Field::ZERO;
-    for i in (0..KINDS).rev() {
-        let sum = sums[i];
+    for (i, &sum) in sums.iter().enumerate() {
         if sum != 0 {
             let value = evaluation::gate_value(f, i as u32 + 1, x, y);
             total = f.add(f.mul(sum, value), total);
