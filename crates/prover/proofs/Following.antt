@@ -1,7 +1,7 @@
 -- The round that follows a coin prefix, layer by layer; and the answer of one message, refusal by refusal.
 -- Assumes nothing.
 use Prim.Native.Nat.{ℕ, zero, suc, ◌+◌, ◌-◌, ◌*◌, ◌≤◌, ◌<◌}
-use mathlib.Core.Path.{◌≡◌, refl, sym, ap, ◌∙◌}
+use mathlib.Core.Path.{◌≡◌, refl, sym, ap, ◌∙◌, subst}
 use mathlib.Core.Bool.{Bool, true, false, cond}
 use mathlib.Core.List.{List}
 use native.Mathlib.Omega.{arith}
@@ -19,6 +19,7 @@ use Rattle.refusal.proofs.Order.{refused_first, refused_by, left_by}
 use Rattle.circuit.specs.Circuit.{prime_of, depth, exponent_at, coin_count}
 use Rattle.circuit.specs.Legal.{all_below, lists_cause}
 use Rattle.circuit.specs.Sized.{LegalCircuit}
+use Rattle.circuit.proofs.Loading.{legal_lists}
 use Rattle.circuit.proofs.Sized.{one_output, deep}
 use Rattle.evaluation.specs.Layer.{AllValues}
 use Rattle.protocol.specs.Rounds.{Place, place, layer_start, AtRound}
@@ -26,6 +27,7 @@ use Rattle.protocol.specs.Judge.{message_length}
 use Rattle.protocol.specs.Prove.{message_from, honest, place_of, prove_one_cause, wrote, refused, one_of, prove_one_answer, prove_one_buffer}
 use Rattle.protocol.proofs.Points.{start_next}
 use Rattle.protocol.proofs.Places.{named}
+use Rattle.standing.specs.Standing.{CoinsOf}
 use Rattle.standing.proofs.Coins.{all_coins}
 use Rattle.messages.specs.Writing.{values_in}
 use Rattle.prover.specs.Answers.{ProvesOne}
@@ -53,6 +55,10 @@ module _ (c : List ℕ) (legal : LegalCircuit c) where
     pub this_layer : round ≤ 2 * k → AtRound c (place layer round) n
     this_layer reached = record { legal = legal; first = low; last = inside; reached = omega arith; counted = counted }
 
+-- a prefix that is shorter than all coins, as the code counts them
+pub prefix_few : (c input prefix : List ℕ) → 0 ≡ lists_cause c input → {n : ℕ} → CoinsOf c n → length prefix < n → length prefix < coin_count c
+prefix_few c input prefix none count less = subst (λ (m : ℕ). length prefix < m) (count (legal_lists c input (sym none)).circuit) less
+
 -- THE ANSWER
 module _ (c input prefix before : List ℕ) where
   -- nothing is wrong with the lists, and the round that follows the prefix has its message due
@@ -61,6 +67,11 @@ module _ (c input prefix before : List ℕ) where
     pub few : length prefix < coin_count c
     pub residues : all_below (prime_of c) prefix ≡ true
     pub there : AtRound c here (length prefix)
+
+  -- from what the checks of the lists and of the prefix say
+  pub due_of : 0 ≡ lists_cause c input → length prefix < coin_count c → all_below (prime_of c) prefix ≡ true → {here : Place}
+      → AtRound c here (length prefix) → Due here
+  due_of none few residues there = record { none = sym none; few = few; residues = residues; there = there }
 
   -- a cause, whatever it is, leaves the buffer
   by_cause : (cause : Cause) → prove_one_cause c input prefix before ≡ number_of cause → ProvesOne c input prefix before (Err cause) before
