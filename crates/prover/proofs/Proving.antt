@@ -9,16 +9,17 @@ use lib.ListN.{length}
 use borrow.Author.Tests.{le-leb, lt-leb}
 use Rattle.lists.specs.Buffer.{over}
 use Rattle.refusal.specs.Number.{number_of}
-use Rattle.refusal.specs.Order.{need}
+use Rattle.refusal.specs.Order.{need, first}
 use Rattle.refusal.specs.declared.Cause.{Cause}
 use Rattle.refusal.specs.declared.Cause.TheVariants.{BufferShort}
-use Rattle.refusal.proofs.Order.{refused_first, refused_by, left_by}
+use Rattle.refusal.proofs.Order.{refused_first, refused_by, left_by, legal_first}
 use Rattle.circuit.specs.Circuit.{message_words}
 use Rattle.circuit.specs.Legal.{lists_cause}
 use Rattle.circuit.specs.Values.{value}
-use Rattle.protocol.proofs.Coins.{CoinsRefused, Admitted, counted, by_coins, by_rest}
+use Rattle.protocol.specs.Check.{need_coins}
+use Rattle.protocol.proofs.Coins.{by_rest}
 use Rattle.protocol.specs.Prove.{proved, refused, proof_of, honest, transcript, prove_cause, prove_answer, prove_buffer}
-use Rattle.prover.specs.Writing.{Provable, Writes}
+use Rattle.prover.specs.Writing.{Writes}
 use Rattle.prover.specs.Answers.{Proves}
 use Rattle.prover.specs.declared.Proof.{Proof}
 use Rattle.std.specs.Prelude.{Ok, Err}
@@ -31,26 +32,22 @@ module _ (c input cs before : List ℕ) where
     buffer = sym (left_by cause (prove_cause c input cs before) (over (transcript c (honest c input) cs) before) before e);
   }
 
-  pub whole_lists : (cause : Cause) → number_of cause ≡ lists_cause c input → Proves c input cs before (Err cause) before
-  unfolding prove_cause
-  whole_lists cause e = by_cause cause (refused_first cause (lists_cause c input) _ e)
+  abbrev of_lists : ℕ
+  of_lists = first (lists_cause c input) (need_coins c cs 0)
 
-  pub whole_coins : (cause : Cause) → CoinsRefused c input cs cause → Proves c input cs before (Err cause) before
+  pub whole_lists : (cause : Cause) → number_of cause ≡ of_lists → Proves c input cs before (Err cause) before
   unfolding prove_cause
-  whole_coins cause r = by_cause cause (by_coins c input cs _ cause r)
+  whole_lists cause e = by_cause cause (sym (by_rest c input cs _) ∙ refused_first cause of_lists _ e)
 
-  module _ (a : Admitted c input cs) where
+  module _ (none : 0 ≡ of_lists) where
     only_room : prove_cause c input cs before ≡ need (leb (message_words c) (length before)) 10 0
     unfolding prove_cause
-    only_room = by_rest c input cs _ a
+    only_room = sym (by_rest c input cs _) ∙ legal_first of_lists _ (sym none)
 
     pub whole_short : length before < message_words c → Proves c input cs before (Err BufferShort) before
     whole_short l = by_cause BufferShort (only_room ∙ ap (λ (b : Bool). need b 10 0) (lt-leb (message_words c) (length before) l))
 
     module _ (room : message_words c ≤ length before) where
-      pub provable : Provable c input cs before
-      provable = record { given = counted a; room = room }
-
       no_cause : prove_cause c input cs before ≡ 0
       no_cause = only_room ∙ ap (λ (b : Bool). need b 10 0) (le-leb (message_words c) (length before) room)
 

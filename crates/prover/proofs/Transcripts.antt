@@ -14,17 +14,17 @@ use Rattle.lists.proofs.Buffer.{length_over, over_more}
 use Rattle.circuit.specs.Circuit.{depth, output_exponent, exponent_at, message_words}
 use Rattle.circuit.specs.Sized.{LegalCircuit}
 use Rattle.circuit.specs.Values.{values_at}
-use Rattle.circuit.proofs.Loading.{legal_lists}
 use Rattle.walk.proofs.Saying.{Saying, saying_all, saying_none, said_more, saying_next}
 use Rattle.protocol.specs.Rounds.{Place, place, rounds, layer_start, AtRound}
 use Rattle.protocol.specs.Judge.{message_length}
+use Rattle.protocol.specs.Check.{Counted}
 use Rattle.protocol.specs.Prove.{message_from, honest, transcript}
+use Rattle.protocol.proofs.Coins.{its_circuit}
 use Rattle.protocol.proofs.Rounds.{as_many}
 use Rattle.protocol.proofs.Sums.{message_words_lem}
 use Rattle.protocol.proofs.Places.{before_round}
 use Rattle.protocol.proofs.Truth.{honest_words}
 use Rattle.standing.proofs.Loops as loops
-use Rattle.prover.specs.Writing.{Provable}
 
 module _ (c input cs first : List ℕ) where
   abbrev all : List ℕ
@@ -44,28 +44,29 @@ module _ (c input cs first : List ℕ) where
 
   -- a buffer with room for all messages stands before a round, whose message is due
   pub record Due (layer round n at : ℕ) (buffer : List ℕ) : Type 0 where
-    pub provable : Provable c input cs first
+    pub given : Counted c input cs
+    pub room : message_words c ≤ length first
     pub before : BeforeRound layer round n at buffer
     pub more : round < 2 * exponent_at c layer + 1
 
-  pub is_due : {layer round n at end : ℕ} {buffer : List ℕ} → Provable c input cs first → BeforeRound layer round n at buffer
-      → end ≡ 2 * exponent_at c layer + 1 → round < end → Due layer round n at buffer
-  is_due {round = round} h b e less = record { provable = h; before = b; more = subst (λ (i : ℕ). round < i) e less }
+  pub is_due : {layer round n at end : ℕ} {buffer : List ℕ} → Counted c input cs → message_words c ≤ length first
+      → BeforeRound layer round n at buffer → end ≡ 2 * exponent_at c layer + 1 → round < end → Due layer round n at buffer
+  is_due {round = round} h room b e less = record { given = h; room = room; before = b; more = subst (λ (i : ℕ). round < i) e less }
 
-  module _ (h : Provable c input cs first) where
+  module _ (h : Counted c input cs) (room : message_words c ≤ length first) where
     legal : LegalCircuit c
-    legal = (legal_lists c input h.given.lists).circuit
+    legal = its_circuit h
 
     pub all_start : (n : ℕ) → n ≡ layer_start c 1 → BeforeLayer 1 n 0 first
     all_start n e = record {
       reached =
           loops.loops_start c legal n e
-          (saying_all (honest c input) (rounds c) (output_exponent c) cs (h.given.coins ∙ sym (as_many c)), omega (arith, message_words_lem c));
+          (saying_all (honest c input) (rounds c) (output_exponent c) cs (h.coins ∙ sym (as_many c)), omega (arith, message_words_lem c));
       written = refl;
     }
 
     as_long : (at : ℕ) {buffer : List ℕ} → buffer ≡ over (take at all) first → at ≤ message_words c → length buffer ≡ length first
-    as_long at e low = ap length e ∙ length_over (take at all) first (omega (arith, h.room, length-take at all))
+    as_long at e low = ap length e ∙ length_over (take at all) first (omega (arith, room, length-take at all))
 
     module _ {layer n at : ℕ} {buffer : List ℕ} (b : BeforeLayer layer n at buffer) where
       pub layer_size : length buffer ≡ length first
@@ -87,23 +88,23 @@ module _ (c input cs first : List ℕ) where
 
   module _ {layer round n at : ℕ} {buffer : List ℕ} (due : Due layer round n at buffer) where
     opened : Rest at (place layer round ∷ before_round c layer (round + 1)) n
-    opened = loops.round_opened c (legal due.provable) due.before.reached due.more
+    opened = loops.round_opened c (its_circuit due.given) due.before.reached due.more
 
     pub coins_there : n < length cs
     coins_there = omega (arith, opened.0.coins)
 
     pub round_place : AtRound c (place layer round) (length (take n cs))
     round_place =
-        loops.round_place c (legal due.provable) due.before.reached due.more cs (let there = coins_there in omega arith)
+        loops.round_place c (its_circuit due.given) due.before.reached due.more cs (let there = coins_there in omega arith)
 
     words_left : at + message_length c (place layer round) ≤ message_words c
     words_left = sum_there (message_length c) (place layer round) (before_round c layer (round + 1)) at (message_words c) opened.1
 
     pub enough : at + message_length c (place layer round) ≤ length first
-    enough = omega (arith, words_left, due.provable.room)
+    enough = omega (arith, words_left, due.room)
 
     pub at_inside : at + message_length c (place layer round) ≤ length buffer
-    at_inside = let left = words_left in omega (arith, enough, as_long due.provable at due.before.written (omega arith))
+    at_inside = let left = words_left in omega (arith, enough, as_long due.given due.room at due.before.written (omega arith))
 
     pub lent_room : message_length c (place layer round) ≤ length (take (length buffer - at) (drop at buffer))
     lent_room = let inside = at_inside in omega (arith, length-take (length buffer - at) (drop at buffer), length-drop at buffer)
@@ -119,11 +120,11 @@ module _ (c input cs first : List ℕ) where
         let room = enough in
         let said = opened.0 in
         let size : length message ≡ message_length c (place layer round) =
-        (honest_words c input due.provable.given.lists (place layer round) (take n cs) round_place).0 in
+        (honest_words c input due.given.lists (place layer round) (take n cs) round_place).0 in
         let front : length (take at all) ≡ at = length-take-le at all said.inside in
         record {
           reached =
-              loops.round_next c (legal due.provable) due.before.reached due.more (
+              loops.round_next c (its_circuit due.given) due.before.reached due.more (
                 subst (λ (m : ℕ). Saying (honest c input) (rounds c) (output_exponent c) cs (before_round c layer (round + 1)) (n + 1) (at + m)) size
                     (saying_next (honest c input) (rounds c) (output_exponent c) cs said),
                 sum_passed (message_length c) (place layer round) (before_round c layer (round + 1)) at (message_words c) opened.1,

@@ -1,17 +1,11 @@
--- Conditions that the inner functions share, and what they write.
+-- What the inner functions write.
 -- Assumes nothing.
-use Rattle.std.specs.Prelude.{ℕ, ◌≤◌, ◌≡◌, List, length}
+use Rattle.std.specs.Prelude.{ℕ, ◌≡◌, List}
 use Rattle.lists.specs.Buffer.{over}
 use Rattle.circuit.specs.Circuit.{message_words}
 use Rattle.circuit.specs.Values.{value}
-use Rattle.protocol.specs.Check.{Counted}
 use Rattle.protocol.specs.Prove.{honest, transcript}
 use Rattle.prover.specs.declared.Proof.{Proof}
-
--- nothing is refused: all messages can be written
-pub record Provable (c input cs buffer : List ℕ) : Type 0 where
-  pub given : Counted c input cs
-  pub room : message_words c ≤ length buffer
 
 -- all messages at the buffer's front, with the output and their number of words
 pub record Writes (c input cs before : List ℕ) (r : Proof) (after : List ℕ) : Type 0 where

@@ -1,20 +1,20 @@
 // The prover: the honest messages, all of them or the one that follows a coin prefix.
 #![tactic(auto)]
 
-ghost use Rattle.std.specs.Prelude.{◌≡◌, ◌<◌, length};
-ghost use Rattle.circuit.specs.Circuit.{coin_count};
+ghost use Rattle.std.specs.Prelude.{◌≡◌, ◌≤◌, ◌<◌, length};
+ghost use Rattle.circuit.specs.Circuit.{coin_count, message_words};
 ghost use Rattle.circuit.specs.Limits.{max_values};
 ghost use Rattle.circuit.specs.Legal.{lists_cause};
 ghost use Rattle.circuit.specs.Sized.{LegalCircuit};
 ghost use Rattle.protocol.specs.Rounds.{AtRound};
 ghost use Rattle.standing.specs.Standing.{as_place};
 ghost use Rattle.evaluation.specs.Layer.{AllValues};
-ghost use Rattle.prover.specs.Writing.{Provable, Writes};
+ghost use Rattle.prover.specs.Writing.{Writes};
 ghost use Rattle.prover.specs.Answers.{Proves, ProvesOne};
 
 use evaluation::MAX_VALUES;
 use refusal::Cause;
-use standing::Place;
+use standing::{Job, Place};
 
 // An output, and the number of message words that were written for it.
 #[derive(Clone, Copy, PartialEq, Eq, Debug)]
@@ -32,19 +32,25 @@ fn fill_values(circuit: &[u32], input: &[u32], values: &mut [u32])
 }
 
 // Writes all messages, each directly after the one before it.
-fn write_all(circuit: &[u32], input: &[u32], coins: &[u32], messages: &mut [u32]) -> Proof
-    requires { Provable circuit.now input.now coins.now messages.old }
-    ensures { Writes circuit.now input.now coins.now messages.old result messages.new }
+fn write_all(job: Job, messages: &mut [u32]) -> Proof
+    requires { message_words job.circuit.now ≤ length messages.old }
+    ensures { Writes job.entry.circuit.now job.entry.input.now job.entry.coins.now messages.old result messages.new }
 {
     let mut values = [0u32; MAX_VALUES];
-    fill_values(circuit, input, &mut values);
-    let mut n = standing::coins_before(circuit, 1);
+    fill_values(job.circuit, job.input, &mut values);
+    let mut n = standing::coins_before(job.circuit, 1);
     let mut at = 0;
-    for layer in 1..layout::depth(circuit) + 1 {
-        for round in 0..2 * layout::exponent(circuit, layer) as usize + 1 {
+    for layer in 1..layout::depth(job.circuit) + 1 {
+        for round in 0..2 * layout::exponent(job.circuit, layer) as usize + 1 {
             let place = Place { layer, round };
-            messages::write_message(circuit, place, &coins[..n], &values, &mut messages[at..]);
-            at += place.message_length(circuit);
+            messages::write_message(
+                job.circuit,
+                place,
+                &job.coins[..n],
+                &values,
+                &mut messages[at..],
+            );
+            at += place.message_length(job.circuit);
             n += 1;
         }
     }
@@ -63,12 +69,11 @@ pub fn prove(
 ) -> Result<Proof, Cause>
     ensures { Proves circuit.now input.now coins.now messages.old result messages.new }
 {
-    legality::check_lists(circuit, input)?;
-    standing::check_coins(circuit, coins)?;
-    if messages.len() < standing::message_words(circuit) {
+    let job = Job::check(circuit, input, coins)?;
+    if messages.len() < standing::message_words(job.circuit) {
         return Err(Cause::BufferShort);
     }
-    Ok(write_all(circuit, input, coins, messages))
+    Ok(write_all(job, messages))
 }
 
 // The round whose message follows these many coins.

@@ -12,13 +12,15 @@ use borrow.Author.Tests.{leb-true, ltb-true, eq-eqb, ne_eqb}
 use Rattle.circuit.specs.Limits.{max_exponent}
 use Rattle.circuit.specs.Circuit.{prime_of, depth, exponents, exponent_at}
 use Rattle.circuit.specs.Sized.{LayerOf, LegalCircuit}
-use Rattle.circuit.proofs.Loading.{split_true, legal_lists}
+use Rattle.circuit.proofs.Loading.{split_true}
 use Rattle.circuit.proofs.Sized.{deep, exponent_small, layer_of}
 use Rattle.walk.specs.Session.{going_on, Record, at, ended, step_final}
 use Rattle.protocol.specs.Rounds.{Place, place, coins_before, is_line, is_last, AtRound}
 use Rattle.protocol.specs.Judge.{input_agrees}
+use Rattle.protocol.specs.Check.{Counted}
 use Rattle.protocol.specs.Session.{record_fits}
-use Rattle.session.specs.Answers.{record_of, verdict_of, Fitting, goes_on, GoesOn}
+use Rattle.protocol.proofs.Coins.{its_circuit}
+use Rattle.session.specs.Answers.{record_of, verdict_of, goes_on, GoesOn}
 use Rattle.session.specs.declared.Session.{Session}
 use Rattle.session.specs.declared.Stepped.{Stepped}
 use Rattle.standing.specs.Standing.{LayerSoFar}
@@ -51,12 +53,12 @@ module _ (c : List ℕ) (h : LegalCircuit c) (s : Record Place) where
       }
 
 -- AFTER A MESSAGE THAT PASSED
-module _ (c input cs : List ℕ) (s : Session) (h : Fitting c input cs s) where
-  pub legal : LegalCircuit c
-  legal = (legal_lists c input h.given.lists).circuit
+module _ {c input cs : List ℕ} (s : Session) (h : Counted c input cs) (fits : record_fits c (record_of s) ≡ true) where
+  abbrev legal : LegalCircuit c
+  legal = its_circuit h
 
   pub own : Fit c legal (record_of s)
-  own = fit c legal (record_of s) h.fits
+  own = fit c legal (record_of s) fits
 
   pub own_layer : LayerOf c s.layer
   own_layer = layer_of c legal s.layer own.there.last

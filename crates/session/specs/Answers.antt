@@ -6,8 +6,7 @@ use Rattle.refusal.specs.declared.Cause.{Cause}
 use Rattle.walk.specs.Session.{Answer, accepted, going_on, refused, Record, at, step_final, step}
 use Rattle.protocol.specs.Rounds.{Place, place, place_after, is_last}
 use Rattle.protocol.specs.Judge.{input_agrees, descent}
-use Rattle.protocol.specs.Check.{Counted}
-use Rattle.protocol.specs.Session.{OpenAnswer, opens, refuses, record_fits, step_answer}
+use Rattle.protocol.specs.Session.{OpenAnswer, opens, refuses, step_answer}
 use Rattle.session.specs.declared.Verdict.{Verdict}
 use Rattle.session.specs.declared.Verdict.TheVariants as verdict
 use Rattle.session.specs.declared.Session.{Session}
@@ -27,11 +26,6 @@ abbrev pub verdict_of : Verdict → Answer
 verdict_of verdict.Accepted = accepted
 verdict_of (verdict.GoOn coin) = going_on coin
 verdict_of (verdict.Refused cause) = refused (number_of cause)
-
--- a step that nothing is refused of before its message
-pub record Fitting (c input cs : List ℕ) (s : Session) : Type 0 where
-  pub given : Counted c input cs
-  pub fits : record_fits c (record_of s) ≡ true
 
 -- what follows a message that passed, from its coin and the new claim; the last comparison is of all coins
 abbrev pub goes_on : List ℕ → List ℕ → List ℕ → Session → ℕ → ℕ → Bool → Answer × Record Place

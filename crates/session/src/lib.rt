@@ -1,17 +1,16 @@
 // A session: its opening, and one message at a time.
 #![tactic(auto)]
 
-ghost use Rattle.std.specs.Prelude.{◌≡◌};
-ghost use Rattle.refusal.specs.Number.{number_of, cause_of};
-ghost use Rattle.circuit.specs.Sized.{LegalCircuit};
+ghost use Rattle.std.specs.Prelude.{◌≡◌, true};
+ghost use Rattle.refusal.specs.Number.{number_of};
 ghost use Rattle.walk.specs.Session.{going_on, refused, ended};
-ghost use Rattle.protocol.specs.Session.{open_answer, record_fits, step_cause};
+ghost use Rattle.protocol.specs.Session.{open_answer, record_fits};
 ghost use Rattle.standing.specs.Standing.{as_place};
-ghost use Rattle.session.specs.Answers.{record_of, opening_of, verdict_of, Fitting, GoesOn, StepsOpen, Steps};
+ghost use Rattle.session.specs.Answers.{record_of, opening_of, verdict_of, GoesOn, StepsOpen, Steps};
 
 use field::Field;
 use refusal::Cause;
-use standing::Place;
+use standing::{Job, Place};
 
 // What a step answers.
 #[derive(Clone, Copy, PartialEq, Eq, Debug)]
@@ -50,17 +49,16 @@ impl Session {
     }
 
     // Whether it is open and fits the circuit.
-    #[tactic(auto, unfolding(protocol::specs::Session::record_fits), using(circuit::proofs::Sized::deep))]
-    fn fits(self, circuit: &[u32]) -> bool
-        requires { LegalCircuit circuit.now }
-        ensures { result ≡ record_fits circuit.now (record_of self) }
+    #[tactic(auto, unfolding(protocol::specs::Session::record_fits), using(protocol::proofs::Coins::its_circuit, circuit::proofs::Sized::deep))]
+    fn fits(self, job: Job) -> bool
+        ensures { result ≡ record_fits job.entry.circuit.now (record_of self) }
     {
         let Place { layer, round } = self.place();
         self.open
             && 1 <= layer
-            && layer <= layout::depth(circuit)
-            && round <= 2 * layout::exponent(circuit, layer) as usize
-            && self.claim < layout::prime(circuit)
+            && layer <= layout::depth(job.circuit)
+            && round <= 2 * layout::exponent(job.circuit, layer) as usize
+            && self.claim < layout::prime(job.circuit)
     }
 
     // Its end: the figures stay.
@@ -112,19 +110,12 @@ fn went_on(next: Session, coin: u32) -> Stepped
 }
 
 // After a message that passed: the next round with its coin, or the last comparison.
-fn go_on(
-    circuit: &[u32],
-    input: &[u32],
-    coins: &[u32],
-    session: Session,
-    coin: u32,
-    claim: u32,
-) -> Stepped
-    requires { Fitting circuit.now input.now coins.now session }
-    ensures { GoesOn circuit.now input.now coins.now session coin claim result }
+fn go_on(job: Job, session: Session, coin: u32, claim: u32) -> Stepped
+    requires { record_fits job.circuit.now (record_of session) ≡ true }
+    ensures { GoesOn job.entry.circuit.now job.entry.input.now job.entry.coins.now session coin claim result }
 {
     let place = session.place();
-    if !place.is_line(circuit) {
+    if !place.is_line(job.circuit) {
         return went_on(
             Session {
                 round: session.round + 1,
@@ -134,7 +125,7 @@ fn go_on(
             coin,
         );
     }
-    if place.layer < layout::depth(circuit) {
+    if place.layer < layout::depth(job.circuit) {
         return went_on(
             Session {
                 layer: session.layer + 1,
@@ -146,7 +137,7 @@ fn go_on(
         );
     }
     let closed = session.ended();
-    if !judgement::input_agrees(circuit, input, coins, claim) {
+    if !judgement::input_agrees(job.circuit, job.input, job.coins, claim) {
         return refusal(Cause::InputDiffers, closed);
     }
     Stepped {
@@ -156,45 +147,22 @@ fn go_on(
 }
 
 // A step on an open record that fits.
-fn step_open(
-    circuit: &[u32],
-    input: &[u32],
-    coins: &[u32],
-    session: Session,
-    message: &[u32],
-) -> Stepped
-    requires { Fitting circuit.now input.now coins.now session }
-    ensures { StepsOpen circuit.now input.now coins.now session message.now result }
+fn step_open(job: Job, session: Session, message: &[u32]) -> Stepped
+    requires { record_fits job.circuit.now (record_of session) ≡ true }
+    ensures { StepsOpen job.entry.circuit.now job.entry.input.now job.entry.coins.now session message.now result }
 {
     let place = session.place();
-    let n = standing::coins_before(circuit, place.layer) + place.round;
-    let judged = judgement::judge(circuit, place, &coins[..n], session.claim, message);
+    let n = standing::coins_before(job.circuit, place.layer) + place.round;
+    let judged = judgement::judge(job.circuit, place, &job.coins[..n], session.claim, message);
     if let Err(cause) = judged {
         return refusal(cause, session.ended());
     }
-    let coin = coins[n];
-    let claim = polynomial::value_at(Field::of(layout::prime(circuit)), message, coin);
-    go_on(circuit, input, coins, session, coin, claim)
+    let coin = job.coins[n];
+    let claim = polynomial::value_at(Field::of(layout::prime(job.circuit)), message, coin);
+    go_on(job, session, coin, claim)
 }
 
-// The refusals that leave the record: 1 to 9, 11, 12 and 19.
-fn check_record(
-    circuit: &[u32],
-    input: &[u32],
-    coins: &[u32],
-    session: Session,
-) -> Result<(), Cause>
-    ensures { cause_of result ≡ step_cause circuit.now input.now coins.now (record_of session) }
-{
-    legality::check_lists(circuit, input)?;
-    standing::check_coins(circuit, coins)?;
-    if !session.fits(circuit) {
-        return Err(Cause::RecordUnfit);
-    }
-    Ok(())
-}
-
-// Step: what leaves the record comes first; then the message is judged.
+// Step: 1 to 9, 11, 12 and 19 leave the record; then the message is judged.
 pub fn step(
     circuit: &[u32],
     input: &[u32],
@@ -204,9 +172,9 @@ pub fn step(
 ) -> Stepped
     ensures { Steps circuit.now input.now coins.now session message.now result }
 {
-    let checked = check_record(circuit, input, coins, session);
-    match checked {
-        Ok(()) => step_open(circuit, input, coins, session, message),
+    match Job::check(circuit, input, coins) {
         Err(cause) => refusal(cause, session),
+        Ok(job) if session.fits(job) => step_open(job, session, message),
+        Ok(_) => refusal(Cause::RecordUnfit, session),
     }
 }

@@ -1,30 +1,20 @@
--- Sums over the layers before one, and the refusals of a coin list.
+-- Sums over the layers before one.
 -- Assumes nothing.
 use Prim.Native.Nat.{ℕ, zero, suc, ◌+◌, ◌-◌, ◌*◌, ◌≤◌}
-use mathlib.Core.Path.{◌≡◌, refl, sym, ap, ◌∙◌}
-use mathlib.Core.Bool.{true, false}
+use mathlib.Core.Path.{◌≡◌, sym, ap, ◌∙◌}
 use mathlib.Core.List.{List, [], ◌∷◌, map}
 use native.Mathlib.Nat.{zero-add}
 use native.Mathlib.Omega.{arith}
-use lib.ListN.{length, take}
+use lib.ListN.{take}
 use lib.Seq.{take_all}
-use borrow.Author.Tests.{eq-eqb, ne_eqb}
 use Rattle.std.specs.Prelude.{fold, sum_by}
 use Rattle.lists.specs.Count.{sum}
 use Rattle.lists.proofs.Count.{sum_nil, sum_cons}
-use Rattle.refusal.specs.Number.{number_of}
-use Rattle.refusal.specs.declared.Cause.{Cause}
-use Rattle.std.specs.Prelude.{⊤, Result, Ok, Err}
-use Rattle.refusal.proofs.Told.{refusal_told, none_told}
-use Rattle.circuit.specs.Circuit.{prime_of, depth, output_exponent, exponents, coin_count, message_words}
-use Rattle.circuit.specs.Legal.{all_below, lists_cause}
+use Rattle.circuit.specs.Circuit.{depth, output_exponent, exponents, coin_count, message_words}
 use Rattle.circuit.specs.Sized.{LegalCircuit}
 use Rattle.circuit.proofs.Sized.{deep}
-use Rattle.circuit.proofs.Loading.{legal_lists}
 use Rattle.protocol.specs.Rounds.{layer_start}
-use Rattle.protocol.specs.Check.{need_coins}
-use Rattle.protocol.proofs.Coins.{CoinsRefused, Admitted}
-use Rattle.standing.specs.Standing.{LayerSoFar, layer_sum, ChecksCoins}
+use Rattle.standing.specs.Standing.{LayerSoFar, layer_sum}
 
 -- the sum as an iterator makes it
 summed_on : (f : ℕ → ℕ) (n : ℕ) (ks : List ℕ) → fold (λ a k. a + f k) n ks ≡ n + sum (map f ks)
@@ -55,11 +45,3 @@ module _ (c : List ℕ) where
   pub all_words : LegalCircuit c → layer_sum 7 (take (depth c + 1 - 1) (exponents c)) ≡ message_words c
   unfolding message_words
   all_words legal = ap (layer_sum 7) (all_before legal)
-
--- 1 to 9, then 11 and 12, as the two checks answer: a refusal of the coins, and none
-module _ {c input cs : List ℕ} (none : 0 ≡ lists_cause c input) where
-  pub coins_refused : {cause : Cause} → (LegalCircuit c → number_of cause ≡ need_coins c cs 0) → CoinsRefused c input cs cause
-  coins_refused answer = record { lists = sym none; cause = answer (legal_lists c input (sym none)).circuit }
-
-  pub admitted : (LegalCircuit c → 0 ≡ need_coins c cs 0) → Admitted c input cs
-  admitted answer = record { lists = sym none; coins = sym (answer (legal_lists c input (sym none)).circuit) }

@@ -16,6 +16,10 @@ use layout::MAX_DEPTH;
 use refusal::Cause;
 use std::marker::Model;
 
+mod job;
+
+pub use job::Job;
+
 // A place of a walk: the layer from 1 on, the round from 0 on. Whether a circuit has such a round is for each function to say.
 #[derive(Clone, Copy, PartialEq, Eq, Debug)]
 pub struct Place {

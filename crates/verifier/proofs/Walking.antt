@@ -7,19 +7,17 @@ use native.Mathlib.Omega.{arith}
 use lib.ListN.{length, take, drop, get_or}
 use Rattle.refusal.specs.Number.{number_of}
 use Rattle.refusal.specs.declared.Cause.{Cause}
-use Rattle.circuit.specs.Circuit.{depth, exponent_at}
-use Rattle.circuit.specs.Sized.{LegalCircuit}
-use Rattle.circuit.proofs.Loading.{legal_lists}
+use Rattle.circuit.specs.Circuit.{depth, exponent_at, message_words}
 use Rattle.walk.specs.Game.{final_cause}
 use Rattle.walk.proofs.Loop.{Run, Left, left_coin, left_words, left_next, left_refused, left_none}
 use Rattle.protocol.specs.Rounds.{Place, place, layer_start, AtRound}
 use Rattle.protocol.specs.Judge.{message_at, message_length, judge, input_agrees, descent}
-use Rattle.protocol.specs.Check.{walk_from}
+use Rattle.protocol.specs.Check.{Counted, walk_from}
+use Rattle.protocol.proofs.Coins.{its_circuit}
 use Rattle.protocol.proofs.Rounds.{as_many}
 use Rattle.protocol.proofs.Sums.{message_words_lem}
 use Rattle.protocol.proofs.Places.{before_round}
 use Rattle.standing.proofs.Loops as loops
-use Rattle.verifier.specs.Answers.{Walkable}
 
 -- what is checked: a circuit and its input, the claim that the walk starts from, and the messages and coins that are to show it
 pub record Claimed : Type 0 where
@@ -48,33 +46,30 @@ module _ (k : Claimed) where
   abbrev pub BeforeRound : ℕ → ℕ → ℕ → ℕ → ℕ → Type 0
   BeforeRound layer round n at claim = loops.BeforeRound c (LeftAt at claim) layer round n
 
-  -- a walk that can be made stands before a round, whose message is due
+  -- a walk stands before a round, whose message is due
   pub record Due (layer round n at claim : ℕ) : Type 0 where
-    pub walkable : Walkable c input cs ms
+    pub given : Counted c input cs
     pub before : BeforeRound layer round n at claim
     pub more : round < 2 * exponent_at c layer + 1
 
-  pub due : Walkable c input cs ms → {layer round n at claim : ℕ} → BeforeRound layer round n at claim → {end : ℕ}
+  pub due : Counted c input cs → {layer round n at claim : ℕ} → BeforeRound layer round n at claim → {end : ℕ}
       → end ≡ 2 * exponent_at c layer + 1 → round < end → Due layer round n at claim
   due h {layer} {round} {n} {at} {claim} before {end} e more =
-      record { walkable = h; before = before; more = subst (λ (i : ℕ). round < i) e more }
+      record { given = h; before = before; more = subst (λ (i : ℕ). round < i) e more }
 
-  legal : Walkable c input cs ms → LegalCircuit c
-  legal h = (legal_lists c input h.given.lists).circuit
-
-  pub walk_starts : Walkable c input cs ms → (n : ℕ) → n ≡ layer_start c 1 → BeforeLayer 1 n 0 y
+  pub walk_starts : Counted c input cs → length ms ≡ message_words c → (n : ℕ) → n ≡ layer_start c 1 → BeforeLayer 1 n 0 y
   unfolding descent
-  walk_starts h n e =
-      loops.loops_start c (legal h) n e
-      (record { coins = h.given.coins ∙ sym (as_many c); words = omega (arith, message_words_lem c, h.words); same = refl })
+  walk_starts h words n e =
+      loops.loops_start c (its_circuit h) n e
+      (record { coins = h.coins ∙ sym (as_many c); words = omega (arith, message_words_lem c, words); same = refl })
 
-  pub walk_ends : Walkable c input cs ms → {layer n at claim : ℕ} → BeforeLayer layer n at claim → depth c < layer
+  pub walk_ends : Counted c input cs → {layer n at claim : ℕ} → BeforeLayer layer n at claim → depth c < layer
       → final_cause (input_agrees c input cs claim) ≡ walk_from c input y cs ms
-  walk_ends h b out = left_none run (loops.loops_end c (legal h) b out)
+  walk_ends h b out = left_none run (loops.loops_end c (its_circuit h) b out)
 
   module _ {layer round n at claim : ℕ} (due : Due layer round n at claim) where
     opened : LeftAt at claim (place layer round ∷ before_round c layer (round + 1)) n
-    opened = loops.round_opened c (legal due.walkable) due.before due.more
+    opened = loops.round_opened c (its_circuit due.given) due.before due.more
 
     pub coin_there : n < length cs
     coin_there = left_coin run opened
@@ -84,7 +79,7 @@ module _ (k : Claimed) where
     words_there = left_words run opened
 
     pub round_place : AtRound c (place layer round) (length (take n cs))
-    round_place = loops.round_place c (legal due.walkable) due.before due.more cs (let there = coin_there in omega arith)
+    round_place = loops.round_place c (its_circuit due.given) due.before due.more cs (let there = coin_there in omega arith)
 
     module _ (w : ℕ) (ew : w ≡ message_length c (place layer round)) where
       abbrev message : List ℕ
@@ -100,7 +95,7 @@ module _ (k : Claimed) where
           let on = left_next run opened (ap (judge c (place layer round) (take n cs) claim) (sym same_message) ∙ e) in
           let claims : message_at c (take (message_length c (place layer round)) (drop at ms)) (get_or cs n 0) ≡ next =
           ap (λ (m : List ℕ). message_at c m (get_or cs n 0)) (sym same_message) ∙ sym en in
-          loops.round_next c (legal due.walkable) due.before due.more
+          loops.round_next c (its_circuit due.given) due.before due.more
           (subst (λ (i : ℕ). LeftAt (at + i) next (before_round c layer (round + 1)) (n + 1)) (sym ew)
           (subst (λ (i : ℕ). LeftAt (at + message_length c (place layer round)) i (before_round c layer (round + 1)) (n + 1)) claims on))
 

@@ -1,30 +1,29 @@
--- `prove` meets its contract: refusal by refusal, then all messages are written.
+-- `prove` meets its contract: refusal by refusal, then all messages are written. The job's lists are those that it checked.
+use Rattle.std.proofs.Common.{◌<◌, ◌≤◌, length}
 use native.Mathlib.Omega.{arith}
 use Rattle.refusal.proofs.Told.{refused_is}
+use Rattle.circuit.specs.Circuit.{message_words}
 use Rattle.protocol.proofs.Coins.{its_circuit}
-use Rattle.standing.proofs.Coins.{coins_refused, admitted}
-use Rattle.prover.proofs.Proving.{whole_lists, whole_coins, whole_short, provable, whole_written}
+use Rattle.prover.proofs.Proving.{whole_lists, whole_short, whole_written}
 use Rattle.prover.proofs.prove.Goals as goal
 
-pub returns-in_err-check_lists : goal.returns-in_err-check_lists
-returns-in_err-check_lists c = rw (refused_is _ _ c.from_residual.ensures.1) (whole_lists _ _ _ _ _ c.in_err-check_lists.ensures)
-
-pub returns-in_err-check_coins : goal.returns-in_err-check_coins
-returns-in_err-check_coins c =
-    rw (refused_is _ _ c.from_residual-in_err-check_coins.ensures.1)
-    (whole_coins _ _ _ _ _ (coins_refused c.in_ok-check_lists.ensures c.in_err-check_coins.ensures))
+pub returns-in_err-job : goal.returns-in_err-job
+returns-in_err-job c = rw (refused_is _ _ c.from_residual.ensures.1) (whole_lists _ _ _ _ _ c.in_err-job.ensures.answer)
 
 pub returns-then-messages-message_words : goal.returns-then-messages-message_words
 returns-then-messages-message_words c =
-    let k = admitted c.in_ok-check_lists.ensures c.in_ok-check_coins.ensures in
-    whole_short _ _ _ _ k (omega (arith, c.message_words.ensures (its_circuit k), c.if-messages-message_words.true))
+    let checked = c.in_ok-job in
+    let less : length c.args.messages.now < message_words checked.job.circuit.now =
+    omega (arith, c.message_words.ensures (its_circuit checked.job.counted), c.if-messages-message_words.true) in
+    whole_short _ _ _ _ checked.ensures.answer (rw checked.ensures.lists.0 at less)
 
 pub write_all-requires : goal.write_all-requires
-write_all-requires c =
-    let k = admitted c.in_ok-check_lists.ensures c.in_ok-check_coins.ensures in
-    provable _ _ _ _ k (omega (arith, c.message_words.ensures (its_circuit k), c.if-messages-message_words.false))
+write_all-requires c = omega (arith, c.message_words.ensures (its_circuit c.in_ok-job.job.counted), c.if-messages-message_words.false)
 
 pub returns : goal.returns
 returns c =
-    let k = admitted c.in_ok-check_lists.ensures c.in_ok-check_coins.ensures in
-    whole_written _ _ _ _ k (omega (arith, c.message_words.ensures (its_circuit k), c.if-messages-message_words.false)) _ _ c.write_all.ensures
+    let checked = c.in_ok-job in
+    let same = checked.ensures.lists in
+    let room : message_words checked.job.circuit.now ≤ length c.args.messages.now =
+    omega (arith, c.message_words.ensures (its_circuit checked.job.counted), c.if-messages-message_words.false) in
+    whole_written _ _ _ _ checked.ensures.answer (rw same.0 at room) _ _ (rw (same.0, same.1, same.2) at c.write_all.ensures)

@@ -8,7 +8,7 @@ use lib.ListN.{length, take, drop, length-replicate}
 use Rattle.lists.specs.Buffer.{over}
 use Rattle.protocol.specs.Rounds.{place}
 use Rattle.protocol.specs.Prove.{message_from}
-use Rattle.circuit.proofs.Loading.{legal_lists}
+use Rattle.protocol.proofs.Coins.{its_circuit}
 use Rattle.circuit.specs.Limits.{max_values}
 use Rattle.standing.proofs.Loops.{first_layer}
 use Rattle.prover.proofs.Values.{layer_values_lem, writable, output_of}
@@ -18,24 +18,24 @@ use borrow.Author.Rules.{rules}
 use Rattle.prover.proofs.write_all.Goals as goal
 
 pub fill_values-requires : goal.fill_values-requires
-fill_values-requires c = (c.requires.given.lists, length-replicate {A = ℕ} max_values 0)
+fill_values-requires c = (c.args.job.counted.lists, length-replicate {A = ℕ} max_values 0)
 
 pub loop-layer-init : goal.loop-layer-init
 loop-layer-init c = (
   ap (λ (n : ℕ). n + 1) c.depth-layer-end.ensures.0,
-  all_start _ _ _ _ c.requires _ (c.coins_before-n.ensures (first_layer _ (legal_lists _ _ c.requires.given.lists).circuit)),
+  all_start _ _ _ _ c.args.job.counted c.requires _ (c.coins_before-n.ensures (first_layer _ (its_circuit c.args.job.counted))),
 )
 
 pub loop-round-init : goal.loop-round-init
 loop-round-init c = (
   c.loop-layer.invariant.0,
   ap (λ (k : ℕ). 2 * k + 1) c.exponent.ensures,
-  λ first h b. layer_starts _ _ _ first h b (omega (arith, c.loop-layer-test.true, c.loop-layer.invariant.0)),
+  λ first h b. layer_starts _ _ _ first c.args.job.counted h b (omega (arith, c.loop-layer-test.true, c.loop-layer.invariant.0)),
 )
 
 pub overflow_add-at : goal.overflow_add-at
 overflow_add-at c =
-    let now = is_due _ _ _ _ c.requires (c.loop-round.invariant.2 _ c.requires c.loop-layer.invariant.1) c.loop-round.invariant.1 c.loop-round-test.true in
+    let now = is_due _ _ _ _ c.args.job.counted c.requires (c.loop-round.invariant.2 _ c.requires c.loop-layer.invariant.1) c.loop-round.invariant.1 c.loop-round-test.true in
     let all : List ℕ = c.args.messages.now in
     let fits : c.loop-round.at + c.message_length-at.result ≤ length all = omega (arith, enough _ _ _ _ now, c.message_length-at.ensures) in
     search rules
@@ -44,17 +44,17 @@ pub loop-round-preserved : goal.loop-round-preserved
 loop-round-preserved c =
     let a = c.args in
     let at = c.loop-round in
-    let lists = c.requires.given.lists in
-    let now = is_due _ _ _ _ c.requires (c.loop-round.invariant.2 _ c.requires c.loop-layer.invariant.1) c.loop-round.invariant.1 c.loop-round-test.true in
+    let lists = c.args.job.counted.lists in
+    let now = is_due _ _ _ _ c.args.job.counted c.requires (c.loop-round.invariant.2 _ c.requires c.loop-layer.invariant.1) c.loop-round.invariant.1 c.loop-round-test.true in
     let spot = round_place _ _ _ _ now in
     let part : List ℕ = take (length at.messages - at.at) (drop at.at at.messages) in
     let ready = writable _ _ lists _ c.fill_values.ensures _ _ _ part spot (lent_room _ _ _ _ now) in
     let same = layer_values_lem _ _ lists _ c.fill_values.ensures c.loop-layer.layer spot.last in
-    let said : List ℕ → List ℕ = λ (vs : List ℕ). message_from a.circuit.now vs (place c.loop-layer.layer at.round) (take at.n a.coins.now) in (
+    let said : List ℕ → List ℕ = λ (vs : List ℕ). message_from a.job.circuit.now vs (place c.loop-layer.layer at.round) (take at.n a.job.coins.now) in (
       at.invariant.0,
       at.invariant.1,
       λ first h b. rw c.message_length-at.ensures
-          (next_round _ _ _ first (is_due _ _ _ _ h (at.invariant.2 first h b) at.invariant.1 c.loop-round-test.true)
+          (next_round _ _ _ first (is_due _ _ _ _ c.args.job.counted h (at.invariant.2 first h b) at.invariant.1 c.loop-round-test.true)
           (c.write_message.ensures ready ∙ ap (λ (vs : List ℕ). over (said vs) part) same)),
     )
 
@@ -62,7 +62,7 @@ pub overflow_step-layer : goal.overflow_step-layer
 overflow_step-layer c =
     let some = c.loop-layer-test.true in
     let end = c.loop-round.invariant.0 in
-    let flat = ((legal_lists c.args.circuit.now c.args.input.now c.requires.given.lists).circuit).sized.headed.shallow in
+    let flat = (its_circuit c.args.job.counted).sized.headed.shallow in
     omega arith
 
 pub loop-layer-smaller : goal.loop-layer-smaller
@@ -71,7 +71,7 @@ loop-layer-smaller c = let some = c.loop-layer-test.true in search rules
 pub loop-layer-preserved : goal.loop-layer-preserved
 loop-layer-preserved c = (
   c.loop-round.invariant.0,
-  layer_ends _ _ _ _ c.requires (c.loop-round.invariant.2 _ c.requires c.loop-layer.invariant.1)
+  layer_ends _ _ _ _ c.args.job.counted c.requires (c.loop-round.invariant.2 _ c.requires c.loop-layer.invariant.1)
       (subst (λ (i : ℕ). i ≤ c.loop-round.round) c.loop-round.invariant.1 c.loop-round-test.false),
 )
 
@@ -79,9 +79,9 @@ pub bounds-values-0 : goal.bounds-values-0
 bounds-values-0 c = let size = (c.fill_values.ensures).size in search rules
 
 pub shape_of-messages : goal.shape_of-messages
-shape_of-messages c = let size = layer_size _ _ _ _ c.requires c.loop-layer.invariant.1 in search rules
+shape_of-messages c = let size = layer_size _ _ _ _ c.args.job.counted c.requires c.loop-layer.invariant.1 in search rules
 
 pub returns : goal.returns
 returns c =
-    let done = all_end _ _ _ _ c.requires c.loop-layer.invariant.1 (omega (arith, c.loop-layer-test.false, c.loop-layer.invariant.0)) in
-    record { output = output_of _ _ c.requires.given.lists _ (c.fill_values.ensures); words = done.0; buffer = done.1 }
+    let done = all_end _ _ _ _ c.args.job.counted c.requires c.loop-layer.invariant.1 (omega (arith, c.loop-layer-test.false, c.loop-layer.invariant.0)) in
+    record { output = output_of _ _ c.args.job.counted.lists _ (c.fill_values.ensures); words = done.0; buffer = done.1 }

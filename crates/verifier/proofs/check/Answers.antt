@@ -2,7 +2,7 @@
 -- opened record.
 use Rattle.std.proofs.Common.{sym, ◌∙◌}
 use Rattle.refusal.proofs.Told.{passed_on}
-use Rattle.circuit.proofs.Loading.{legal_lists}
+use Rattle.protocol.proofs.Coins.{its_circuit}
 use Rattle.verifier.proofs.Checking.{check_refused, opened_given, check_length, check_walks}
 use Rattle.verifier.proofs.check.Goals as goal
 
@@ -14,20 +14,24 @@ returns-then-messages-message_words c =
     let a = c.args in
     let opens = c.in_ok-opened.ensures in
     let given = opened_given a.circuit.now a.input.now a.output a.coins.now a.messages.now _ opens in
-    let words = c.message_words.ensures (legal_lists a.circuit.now a.input.now given.lists).circuit in
+    let words = c.message_words.ensures (its_circuit given) in
     check_length a.circuit.now a.input.now a.output a.coins.now a.messages.now _ opens (λ e. c.if-messages-message_words.true (e ∙ sym words))
+
+pub invariant_of-job : goal.invariant_of-job
+invariant_of-job c =
+    let a = c.args in
+    record { counted = opened_given a.circuit.now a.input.now a.output a.coins.now a.messages.now _ c.in_ok-opened.ensures }
 
 pub walk-requires : goal.walk-requires
 walk-requires c =
     let a = c.args in
     let given = opened_given a.circuit.now a.input.now a.output a.coins.now a.messages.now _ c.in_ok-opened.ensures in
-    let words = c.message_words.ensures (legal_lists a.circuit.now a.input.now given.lists).circuit in
-    record { given = given; words = c.if-messages-message_words.false ∙ words }
+    c.if-messages-message_words.false ∙ c.message_words.ensures (its_circuit given)
 
 pub returns : goal.returns
 returns c =
     let a = c.args in
     let opens = c.in_ok-opened.ensures in
     let given = opened_given a.circuit.now a.input.now a.output a.coins.now a.messages.now _ opens in
-    let words = c.message_words.ensures (legal_lists a.circuit.now a.input.now given.lists).circuit in
+    let words = c.message_words.ensures (its_circuit given) in
     c.walk.ensures ∙ check_walks a.circuit.now a.input.now a.output a.coins.now a.messages.now _ opens (c.if-messages-message_words.false ∙ words)

@@ -8,13 +8,13 @@ use Rattle.verifier.proofs.walk.Given as goal
 
 abbrev pub invariant-loop-round : goal.invariant-loop-round
 invariant-loop-round l =
-    (l.round-end ≡ 2 * exponent_at l.circuit l.layer + 1) × BeforeRound (claimed l.circuit l.input l.first l.messages l.coins) l.layer l.round l.n l.at l.claim
+    (l.round-end ≡ 2 * exponent_at l.job.circuit.now l.layer + 1) × BeforeRound (claimed l.job.circuit.now l.job.input.now l.first l.messages l.job.coins.now) l.layer l.round l.n l.at l.claim
 
 abbrev pub decreases-loop-round : goal.decreases-loop-round
 decreases-loop-round l = l.round-end - l.round
 
 abbrev pub invariant-walk : goal.invariant-walk
-invariant-walk l = BeforeLayer (claimed l.circuit l.input l.first l.messages l.coins) l.layer l.n l.at l.claim
+invariant-walk l = BeforeLayer (claimed l.job.circuit.now l.job.input.now l.first l.messages l.job.coins.now) l.layer l.n l.at l.claim
 
 abbrev pub decreases-walk : goal.decreases-walk
-decreases-walk l = 1 + depth_of l.circuit - l.layer
+decreases-walk l = 1 + depth_of l.job.circuit.now - l.layer
