@@ -60,12 +60,6 @@ fn checksum(words: &[u32]) -> u64
     h
 }
 
-// Prints a label and a number.
-pub fn print_labelled<W: Write>(output: &mut W, label: &[u8], number: u64) -> Result<()> {
-    output.write_all(label)?;
-    write!(output, "{number}")
-}
-
 // Prints numbers, each after a space, and answers how many.
 pub fn print_numbers<W: Write>(output: &mut W, numbers: &[u32]) -> Result<usize>
     ensures { IfOk result (λ n. n ≡ length numbers.now) }

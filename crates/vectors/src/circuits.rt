@@ -20,8 +20,7 @@ pub fn evaluate<W: Write>(output: &mut W, lists: &[u32]) -> Result<()> {
     let lent = &mut buffer[..count];
     match evaluation::evaluate(cases::list(lists, 0), cases::list(lists, 1), lent) {
         Ok(value) => {
-            output.write_all(b"value")?;
-            cases::print_numbers(output, &[value])?;
+            write!(output, "value {value}")?;
         }
         Err(cause) => {
             cases::print_refused(output, cause)?;

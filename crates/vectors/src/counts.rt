@@ -63,10 +63,7 @@ fn ruled(rule: &[u32], number: u32) -> [u32; 8] {
 fn checked(circuit: &[u32], input: &[u32], output: u32, coins: &[u32], messages: &[u32]) -> u32
     ensures { result ≤ 1 }
 {
-    match verifier::check(circuit, input, output, coins, messages) {
-        Ok(()) => 1,
-        Err(_) => 0,
-    }
+    u32::from(verifier::check(circuit, input, output, coins, messages).is_ok())
 }
 
 // 1 where the last step of a session accepts, and otherwise 0.
@@ -79,26 +76,13 @@ fn stepped(circuit: &[u32], input: &[u32], output: u32, coins: &[u32], messages:
     let first = &messages[0..3];
     let second = &messages[3..6];
     let third = &messages[6..];
-    let opening = session::open(circuit, input, output, coins);
-    let Ok(opened) = opening else {
+    let Ok(opened) = session::open(circuit, input, output, coins) else {
         return 0;
     };
     let session = session::step(circuit, input, coins, opened, first).session;
     let session = session::step(circuit, input, coins, session, second).session;
     let verdict = session::step(circuit, input, coins, session, third).verdict;
-    match verdict {
-        Verdict::Accepted => 1,
-        Verdict::GoOn(_) => 0,
-        Verdict::Refused(_) => 0,
-    }
-}
-
-fn print_accepted<W: Write>(output: &mut W, by_check: u32, by_session: u32) -> Result<()> {
-    output.write_all(b"accepted on")?;
-    cases::print_numbers(output, &[by_check])?;
-    output.write_all(b" by check,")?;
-    cases::print_numbers(output, &[by_session])?;
-    output.write_all(b" by session")
+    u32::from(verdict == Verdict::Accepted)
 }
 
 // Counts the lists on which the messages that each list's number gives are accepted, and prints both counts.
@@ -120,7 +104,10 @@ fn count<W: Write, M: Fn(u32) -> [u32; 8]>(
         by_check += checked(circuit, input, value, &coins, &messages);
         by_session += stepped(circuit, input, value, &coins, &messages);
     }
-    print_accepted(output, by_check, by_session)
+    write!(
+        output,
+        "accepted on {by_check} by check, {by_session} by session"
+    )
 }
 
 // Of the prover's messages, all at once.

@@ -5,17 +5,14 @@ use refusal::Cause;
 use std::io;
 use std::io::Write;
 
-// Prints a number after a space.
-fn print_count<W: Write>(output: &mut W, count: usize) -> io::Result<()> {
-    cases::print_labelled(output, b" ", count as u64)
-}
-
 fn print_proved<W: Write>(output: &mut W, proved: Result<Proof, Cause>) -> io::Result<()> {
     match proved {
         Ok(proof) => {
-            output.write_all(b"proved")?;
-            cases::print_numbers(output, &[proof.output])?;
-            print_count(output, proof.words)?;
+            let Proof {
+                output: value,
+                words,
+            } = proof;
+            write!(output, "proved {value} {words}")?;
         }
         Err(cause) => {
             cases::print_refused(output, cause)?;
@@ -51,8 +48,7 @@ pub fn prove_one<W: Write>(output: &mut W, lists: &[u32]) -> io::Result<()> {
     );
     match message {
         Ok(words) => {
-            output.write_all(b"message")?;
-            print_count(output, words)?;
+            write!(output, "message {words}")?;
         }
         Err(cause) => {
             cases::print_refused(output, cause)?;

@@ -3,13 +3,14 @@ use session::{Session, Verdict};
 use std::io::{Result, Write};
 
 fn print_record<W: Write>(output: &mut W, session: Session) -> Result<()> {
-    output.write_all(b" record")?;
-    cases::print_numbers(output, &[session.layer, session.round, session.claim])?;
-    if session.open {
-        output.write_all(b" open")
-    } else {
-        output.write_all(b" ended")
-    }
+    let Session {
+        layer,
+        round,
+        claim,
+        open,
+    } = session;
+    let state = if open { "open" } else { "ended" };
+    write!(output, " record {layer} {round} {claim} {state}")
 }
 
 // The record whose figures are in a list.
@@ -68,14 +69,12 @@ pub fn step<W: Write>(output: &mut W, lists: &[u32]) -> Result<()> {
         record(cases::list(lists, 3)),
         cases::list(lists, 4),
     );
-    let verdict = stepped.verdict;
-    match verdict {
+    match stepped.verdict {
         Verdict::Accepted => {
             output.write_all(b"accepted")?;
         }
         Verdict::GoOn(coin) => {
-            output.write_all(b"go on")?;
-            cases::print_numbers(output, &[coin])?;
+            write!(output, "go on {coin}")?;
         }
         Verdict::Refused(cause) => {
             cases::print_refused(output, cause)?;
