@@ -29,9 +29,9 @@ pub fn write_lists(
     ensures { Wrote (lists_text circuit.now input.now coins.now transcript.now)
         text.old text.new result }
 {
-    if transcript.len() == 0 {
+    let [output, messages @ ..] = transcript else {
         return printing::write_refused(Cause::BytesUnfit, text);
-    }
-    let outcome = verifier::check(circuit, input, transcript[0], coins, &transcript[1..]);
+    };
+    let outcome = verifier::check(circuit, input, *output, coins, messages);
     write_outcome(outcome, text)
 }
