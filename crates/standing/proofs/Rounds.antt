@@ -39,9 +39,6 @@ module _ (c : List ℕ) (layer round : ℕ) (past : List ℕ) (h : AtRound c (pl
   pub own_small : exponent_at c layer ≤ max_exponent
   own_small = exponent_small c layer own_layer
 
-  above_layer : LayerOf c (layer - 1)
-  above_layer = let low : layer ≤ depth c = h.last in record { headed = h.legal.sized.headed; inside = omega arith }
-
   -- the layer's own coins
   pub own_coins : length (fixed c layer past) ≡ round
   own_coins = length-drop (layer_start c layer) past ∙ omega (arith, h.counted)

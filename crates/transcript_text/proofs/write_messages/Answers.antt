@@ -2,7 +2,7 @@
 use Prim.Native.Nat.{ℕ, ◌+◌, ◌*◌, ◌≤◌}
 use mathlib.Core.Path.{ap, subst}
 use native.Mathlib.Omega.{arith}
-use Rattle.text.proofs.Writing.{wrote_within, wrote_room, wrote_length, wrote_more}
+use Rattle.text.proofs.Writing.{wrote_within}
 use Rattle.transcript_text.proofs.Messages.{lines_start, lines_end}
 use Rattle.transcript_text.proofs.Messages.{is_due, layer_starts, layer_ends, words_there, round_done}
 use lib.ListN.{length}
@@ -46,12 +46,6 @@ slice_bounds-write_message-start-in-loop-round c =
     let within = wrote_within _ _ _ _ (c.loop-round.invariant.1 _ c.loop-layer.invariant.1).stands.left.wrote in
     search rules
 
-pub overflow_add-to : goal.overflow_add-to
-overflow_add-to c =
-    let here = c.loop-round.invariant.1 _ c.loop-layer.invariant.1 in
-    let room = wrote_room _ _ _ _ (wrote_more _ _ _ _ here.stands.left.wrote _ _ _ c.write_message-to.ensures) in
-    search rules
-
 pub loop-round-preserved : goal.loop-round-preserved
 loop-round-preserved c =
     let wide = c.message_length.ensures in (
@@ -67,9 +61,6 @@ loop-layer-preserved c = (
   layer_ends _ _ _ c.requires.0 (c.loop-round.invariant.1 _ c.loop-layer.invariant.1)
       (subst (λ (i : ℕ). i ≤ c.loop-round.round) c.loop-round.invariant.0 c.loop-round-test.false),
 )
-
-pub shape_of-text : goal.shape_of-text
-shape_of-text c = wrote_length _ _ _ _ c.loop-layer.invariant.1.stands.left.wrote
 
 pub returns : goal.returns
 returns c = lines_end _ _ _ c.requires.0 c.loop-layer.invariant.1 (omega (arith, c.loop-layer.invariant.0, c.loop-layer-test.false))
