@@ -28,6 +28,7 @@ fn fill_values(circuit: &[u32], input: &[u32], values: &mut [u32])
     requires { (lists_cause circuit.now input.now ≡ 0) × (length values.old ≡ max_values) }
     ensures { AllValues circuit.now input.now values.new }
 {
+    // Nothing is refused: the lists are legal, and the array holds the values of the largest circuit.
     let _ = evaluation::evaluate(circuit, input, values);
 }
 

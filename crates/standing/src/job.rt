@@ -8,7 +8,7 @@ ghost use Rattle.protocol.specs.Check.{Counted, need_coins};
 
 use refusal::Cause;
 
-// A circuit, its input and its coins, of which nothing is refused.
+// A legal circuit, its input, and as many coins as it calls for.
 #[derive(Clone, Copy)]
 pub struct Job<'a> {
     pub circuit: &'a [u32],

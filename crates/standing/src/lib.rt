@@ -1,5 +1,5 @@
-// Where a walk stands: what a round's place and the coins before it say of a circuit. The check and the prover both read it here. Every function
-// is total; some promise nothing where the list is no legal circuit or the coins are not those before the place.
+// Where a walk stands: what a round's place and the coins before it say of a circuit. The check and the prover both read it here. Every public
+// function is total; some promise nothing where the list is no legal circuit or the coins are not those before the place.
 #![tactic(auto)]
 
 ghost use Rattle.std.specs.Prelude.{◌≡◌, ◌≤◌, ◌-◌, length, take};
@@ -180,7 +180,7 @@ pub struct Stand {
     pub points: [[u32; MAX_COORDINATES]; 2],
 }
 
-// What stands at a place, from the coins before it; nothing where there is no such round. Whatever the list, its numbers are cut to a row's
+// What stands at a place, from the coins before it; nothing where there is no such round. Whatever the list, `own` is no more than a row's
 // length.
 pub fn at_round(circuit: &[u32], place: Place, past: &[u32]) -> Stand
     ensures { StandsAt circuit.now (as_place place) past.now result }

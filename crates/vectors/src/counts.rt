@@ -2,8 +2,6 @@
 // a session. The lists of a case are a circuit with three messages, of three, three and two words, its input, the output, and the rule's
 // messages: the first one, then the second ones in the order of the coin before them, then the third ones in the order of the two coins
 // before them.
-ghost use Rattle.std.specs.Prelude.{◌≤◌};
-
 use session::Verdict;
 use std::io::{Result, Write};
 
@@ -35,12 +33,10 @@ fn following(circuit: &[u32], input: &[u32], prefix: &[u32]) -> [u32; 3] {
 
 // The prover's messages, one after the other.
 fn single(circuit: &[u32], input: &[u32], coins: [u32; 3]) -> [u32; 8] {
-    let first = following(circuit, input, &[]);
-    let second = following(circuit, input, &coins[..1]);
-    let third = following(circuit, input, &coins[..2]);
-    [
-        first[0], first[1], first[2], second[0], second[1], second[2], third[0], third[1],
-    ]
+    let [a, b, c] = following(circuit, input, &[]);
+    let [d, e, f] = following(circuit, input, &coins[..1]);
+    let [g, h, _] = following(circuit, input, &coins[..2]);
+    [a, b, c, d, e, f, g, h]
 }
 
 // The messages of a rule on the coin list of a number.
@@ -59,30 +55,20 @@ fn ruled(rule: &[u32], number: u32) -> [u32; 8] {
     ]
 }
 
-// 1 where the check accepts, and otherwise 0.
-fn checked(circuit: &[u32], input: &[u32], output: u32, coins: &[u32], messages: &[u32]) -> u32
-    ensures { result ≤ 1 }
-{
-    u32::from(verifier::check(circuit, input, output, coins, messages).is_ok())
-}
-
-// 1 where the last step of a session accepts, and otherwise 0.
-fn stepped(circuit: &[u32], input: &[u32], output: u32, coins: &[u32], messages: &[u32]) -> u32
-    ensures { result ≤ 1 }
-{
-    if messages.len() < 6 {
-        return 0;
-    }
-    let first = &messages[0..3];
-    let second = &messages[3..6];
-    let third = &messages[6..];
+// Whether the last step of a session accepts.
+fn steps_accepted(
+    circuit: &[u32],
+    input: &[u32],
+    output: u32,
+    coins: &[u32],
+    messages: [u32; 8],
+) -> bool {
     let Ok(opened) = session::open(circuit, input, output, coins) else {
-        return 0;
+        return false;
     };
-    let session = session::step(circuit, input, coins, opened, first).session;
-    let session = session::step(circuit, input, coins, session, second).session;
-    let verdict = session::step(circuit, input, coins, session, third).verdict;
-    u32::from(verdict == Verdict::Accepted)
+    let session = session::step(circuit, input, coins, opened, &messages[..3]).session;
+    let session = session::step(circuit, input, coins, session, &messages[3..6]).session;
+    session::step(circuit, input, coins, session, &messages[6..]).verdict == Verdict::Accepted
 }
 
 // Counts the lists on which the messages that each list's number gives are accepted, and prints both counts.
@@ -101,8 +87,9 @@ fn count<W: Write, M: Fn(u32) -> [u32; 8]>(
     for number in 0..ALL_LISTS {
         let coins = coins_of(number);
         let messages = messages_of(number);
-        by_check += checked(circuit, input, value, &coins, &messages);
-        by_session += stepped(circuit, input, value, &coins, &messages);
+        let accepted = verifier::check(circuit, input, value, &coins, &messages).is_ok();
+        by_check += u32::from(accepted);
+        by_session += u32::from(steps_accepted(circuit, input, value, &coins, messages));
     }
     write!(
         output,

@@ -15,6 +15,7 @@
 // operation left it. What a program prints stands on the note's line, a transcript on lines of its own.
 #![tactic(auto)]
 
+mod answers;
 mod circuits;
 mod counts;
 mod provers;
@@ -85,20 +86,14 @@ pub const MAX_WORDS: usize = MAX_BYTES / 4;
 const NOTE: usize = 12;
 
 fn read<W: Write>(output: &mut W, bytes: &[u8], lists: &[u32]) -> Result<()> {
-    let mut buffer = [0u32; MAX_WORDS];
-    let count = lists::put(&mut buffer, cases::list(lists, 1));
-    let lent = &mut buffer[..count];
-    match xdr::read(bytes, lists::word(cases::list(lists, 0), 0), lent) {
-        Ok(counts) => {
+    answers::lend(output, cases::list(lists, 1), |output, lent| {
+        let counts = xdr::read(bytes, lists::word(cases::list(lists, 0), 0), lent);
+        answers::print(output, counts, |output, counts| {
             output.write_all(b"counts")?;
             cases::print_numbers(output, &counts)?;
-        }
-        Err(cause) => {
-            cases::print_refused(output, cause)?;
-        }
-    }
-    cases::print_buffer(output, lent)?;
-    Ok(())
+            Ok(())
+        })
+    })
 }
 
 // What an operation answers.

@@ -1,16 +1,15 @@
 // Cases of check, open and step.
+use crate::answers;
 use session::{Session, Verdict};
 use std::io::{Result, Write};
 
 fn print_record<W: Write>(output: &mut W, session: Session) -> Result<()> {
-    let Session {
-        layer,
-        round,
-        claim,
-        open,
-    } = session;
-    let state = if open { "open" } else { "ended" };
-    write!(output, " record {layer} {round} {claim} {state}")
+    let state = if session.open { "open" } else { "ended" };
+    write!(
+        output,
+        " record {} {} {} {state}",
+        session.layer, session.round, session.claim
+    )
 }
 
 // The record whose figures are in a list.
@@ -31,15 +30,7 @@ pub fn check<W: Write>(output: &mut W, lists: &[u32]) -> Result<()> {
         cases::list(lists, 3),
         cases::list(lists, 4),
     );
-    match outcome {
-        Ok(()) => {
-            output.write_all(b"accepted")?;
-        }
-        Err(cause) => {
-            cases::print_refused(output, cause)?;
-        }
-    }
-    Ok(())
+    answers::print(output, outcome, |output, ()| output.write_all(b"accepted"))
 }
 
 pub fn open<W: Write>(output: &mut W, lists: &[u32]) -> Result<()> {
@@ -49,16 +40,10 @@ pub fn open<W: Write>(output: &mut W, lists: &[u32]) -> Result<()> {
         lists::word(cases::list(lists, 2), 0),
         cases::list(lists, 3),
     );
-    match opening {
-        Ok(session) => {
-            output.write_all(b"opened")?;
-            print_record(output, session)?;
-        }
-        Err(cause) => {
-            cases::print_refused(output, cause)?;
-        }
-    }
-    Ok(())
+    answers::print(output, opening, |output, session| {
+        output.write_all(b"opened")?;
+        print_record(output, session)
+    })
 }
 
 pub fn step<W: Write>(output: &mut W, lists: &[u32]) -> Result<()> {

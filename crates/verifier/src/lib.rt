@@ -38,6 +38,7 @@ fn walk(job: Job, first: u32, messages: &[u32]) -> Result<(), Cause>
         if depth < layer {
             break 'walk finish(job, claim);
         }
+        // Not up to the line's number with `..=`: such a loop ends on two paths, and each asks for a turn's proof.
         for round in 0..2 * layout::exponent(job.circuit, layer) as usize + 1 {
             let place = Place { layer, round };
             let end = at + place.message_length(job.circuit);
