@@ -35,6 +35,7 @@ fn fill_layer(f: Field, gates: &[[u32; 3]], values: &mut [u32])
     requires { Fillable (map gate_in gates.now) values.old }
     ensures { values.new ≡ over (layer_values (numbers f) (map gate_in gates.now) values.old) values.old }
 {
+    // Written by place, since the loop reads other words of the same list.
     for (i, &words) in gates.iter().enumerate() {
         let gate = Gate::from(words);
         let x = values[gates.len() + gate.left as usize];

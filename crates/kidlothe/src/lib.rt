@@ -61,6 +61,7 @@ impl From<Result<[u32; 4], Cause>> for Counts {
     fn from(answer: Result<[u32; 4], Cause>) -> Counts {
         match answer {
             Ok(counts) => {
+                // Taken apart in a line of its own: as a pattern inside Ok it has no proof.
                 let [first, second, third, fourth] = counts;
                 Counts {
                     refusal: 0,

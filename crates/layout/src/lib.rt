@@ -1,5 +1,5 @@
-// The circuit list's layout: p, D, k_1 to k_D, then the gates of layers 0 to D-1 in order. Where each part stands is said here alone. Every
-// function is total: of what the list has not it gives 0 or nothing.
+// The circuit list's layout: p, D, k_1 to k_D, then the gates of layers 0 to D-1 in order. Where each part stands is said here alone, but
+// that `sums` reads a gate's three words. Every function is total: of what the list has not it gives 0 or nothing.
 #![tactic(auto)]
 
 ghost use Rattle.std.specs.Prelude.{◌≡◌, ◌/◌, ◌^◌, ◌<◌, leb, length, drop, map};

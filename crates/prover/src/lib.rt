@@ -41,6 +41,7 @@ fn write_all(job: Job, messages: &mut [u32]) -> Proof
     fill_values(job.circuit, job.input, &mut values);
     let mut n = standing::coins_before(job.circuit, 1);
     let mut at = 0;
+    // Not with `..=`: such a loop ends on two paths, and each asks for a turn's proof.
     for layer in 1..layout::depth(job.circuit) + 1 {
         for round in 0..2 * layout::exponent(job.circuit, layer) as usize + 1 {
             let place = Place { layer, round };

@@ -10,7 +10,7 @@ use extension::MAX_COORDINATES;
 use field::Field;
 use layout::{Gate, Kind};
 
-// How many kinds of gates do something with two values: kind 1 and those that follow it.
+// How many kinds of gates do something with two values: Add, then Multiply.
 const KINDS: usize = 2;
 
 // t times a difference, without a product where there is none: rows end in words that stand for no coordinate, and those are alike.
@@ -72,7 +72,7 @@ fn wirings(f: Field, gates: &[u32], point: &[u32], u: &[u32], v: &[u32]) -> [u32
     sums
 }
 
-// The sums, each times what its kind does with x and y. A kind whose sum is 0 costs no product.
+// The sums, each times what its kind does with x and y: the sum at place i is of kind i + 1. A kind whose sum is 0 costs no product.
 fn by_kinds(f: Field, sums: [u32; KINDS], x: u32, y: u32) -> u32
     ensures { result ≡ by_kinds (numbers f) sums x y }
 {

@@ -25,7 +25,7 @@ fn each_pair<F: Fn(u32, u32) -> (u32, u32)>(table: &mut [u32], step: F)
 {
     let half = table.len() / 2;
     let (lower, upper) = table.split_at_mut(half);
-    // The upper half by index, since a proof knows no value of a word that `iter_mut().zip(..)` has lent.
+    // The upper half by place: behind a zip with `iter_mut` a proof knows no value of a word.
     for (i, low) in lower.iter_mut().enumerate() {
         (*low, upper[i]) = step(*low, upper[i]);
     }

@@ -41,6 +41,7 @@ fn write_messages(circuit: &[u32], messages: &[u32], text: &mut [u8]) -> usize
 {
     let mut at = 0;
     let mut to = 0;
+    // Not with `..=`: such a loop ends on two paths, and each asks for a turn's proof.
     for layer in 1..layout::depth(circuit) + 1 {
         for round in 0..2 * layout::exponent(circuit, layer) as usize + 1 {
             let place = Place { layer, round };
