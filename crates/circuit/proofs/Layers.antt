@@ -166,6 +166,6 @@ value_below c input e =
     let two = (listed_prime (prime_of c) (legal_lists c input e).circuit.listed).two_le in
     first_below (prime_of c) (omega arith) (layers c input) (values_are_residues c input e)
 
--- the largest residue of a listed prime, from the prime as it is read
-pub prime_modulus : (c : List ℕ) → LegalCircuit c → (p largest : ℕ) → p ≡ prime_of c → largest ≡ p - 1 → largest + 1 ≡ prime_of c
-prime_modulus c h p largest e l = let two = (listed_prime (prime_of c) h.listed).two_le in omega arith
+-- the largest residue of a listed prime
+pub prime_modulus : (c : List ℕ) → LegalCircuit c → (largest : ℕ) → largest ≡ prime_of c - 1 → largest + 1 ≡ prime_of c
+prime_modulus c h largest e = let two = (listed_prime (prime_of c) h.listed).two_le in omega arith

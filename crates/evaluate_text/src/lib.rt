@@ -9,8 +9,7 @@ pub fn write_lists(circuit: &[u32], input: &[u32], text: &mut [u8]) -> usize
     ensures { Wrote (lists_text circuit.now input.now) text.old text.new result }
 {
     let mut values = [0u32; evaluation::MAX_VALUES];
-    let evaluated = evaluation::evaluate(circuit, input, &mut values);
-    match evaluated {
+    match evaluation::evaluate(circuit, input, &mut values) {
         Err(cause) => printing::write_refused(cause, text),
         Ok(output) => text::put_line(text, b"output", &[output]),
     }

@@ -13,7 +13,7 @@ ghost use Rattle.evaluation.specs.Layer.{layer_values, AllValues, Fillable, Plac
 ghost use Rattle.evaluation.specs.Evaluate.{Evaluates};
 
 use field::Field;
-use layout::{Gate, Kind};
+use layout::{GATE_WORDS, Gate, Kind};
 use refusal::Cause;
 
 // The gate and input words of the largest circuit.
@@ -31,7 +31,7 @@ pub fn gate_value(f: Field, kind: u32, x: u32, y: u32) -> u32
 }
 
 // Writes the values of a layer's gates over the front of `values`, behind which stand the next layer's.
-fn fill_layer(f: Field, gates: &[[u32; 3]], values: &mut [u32])
+fn fill_layer(f: Field, gates: &[[u32; GATE_WORDS]], values: &mut [u32])
     requires { Fillable (map gate_in gates.now) values.old }
     ensures { values.new ≡ over (layer_values (numbers f) (map gate_in gates.now) values.old) values.old }
 {
@@ -59,7 +59,7 @@ fn all_values(circuit: &[u32], input: &[u32], place: usize) -> [u32; MAX_VALUES]
     requires { (lists_cause circuit.now input.now ≡ 0) × (place ≡ gates_before circuit.now (depth circuit.now)) }
     ensures { AllValues circuit.now input.now result }
 {
-    let f = Field::of(layout::prime(circuit));
+    let f = layout::field(circuit);
     let gates = layout::gates(layout::all_gates(circuit));
     let mut at = place;
     let mut values = place_input(input, at);

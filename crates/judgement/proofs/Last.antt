@@ -30,10 +30,10 @@ module _ (c input cs : List ℕ) (h : Counted c input cs) where
   behind_last = record { there = so_far c legal; counted = h.coins ∙ sym (all_coins c legal) }
 
   -- from what the check computes
-  pub agrees : {layers p largest x : ℕ} (claim : ℕ) {point : List ℕ} → layers ≡ depth c → PointStands c (layers + 1) cs point → p ≡ prime_of c
-      → largest ≡ p - 1 → x ≡ halving (words (largest + 1)) input point → eqb x claim ≡ input_agrees c input cs claim
+  pub agrees : {layers largest x : ℕ} (claim : ℕ) {point : List ℕ} → layers ≡ depth c → PointStands c (layers + 1) cs point
+      → largest ≡ prime_of c - 1 → x ≡ halving (words (largest + 1)) input point → eqb x claim ≡ input_agrees c input cs claim
   unfolding input_agrees input_exponent
-  agrees {layers} {p} {largest} {x} claim {point} deepest stands prime residue e =
+  agrees {layers} {largest} {x} claim {point} deepest stands residue e =
       let lists = legal_lists c input h.lists in
       let z : List ℕ = point_at c (depth c + 1) cs in
       let there : point ≡ z = subst (λ (i : ℕ). PointStands c (i + 1) cs point) deepest stands behind_last in
@@ -41,7 +41,7 @@ module _ (c input cs : List ℕ) (h : Counted c input cs) where
       let e : depth c + 1 - 1 ≡ depth c = omega arith in point_length c cs (depth c + 1) behind_last ∙ ap (exponent_at c) e in
       let wide : length input ≡ 2 ^ length z = lists.sized ∙ ap (λ (n : ℕ). 2 ^ exponent_at c n) (deep c legal) ∙ ap (λ (n : ℕ). 2 ^ n) (sym size) in
       let last : depth c + 1 ≡ suc (length (exponents c)) = add-one (depth c) ∙ ap suc (sym (deep c legal)) in
-      let f = prime_modulus c legal p largest prime residue in
+      let f = prime_modulus c legal largest residue in
       ap (λ (v : ℕ). eqb v claim)
       (e ∙ ap₂ (λ (m : ℕ) (l : List ℕ). halving (words m) input l) f there
       ∙ halving_on_words (prime_of c) (positive c input h.lists) input z wide (all_below_lem (prime_of c) input lists.residues)

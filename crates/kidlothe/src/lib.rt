@@ -24,7 +24,7 @@ const OPEN: u32 = 1;
 
 // What Evaluate answers.
 #[repr(C)]
-#[derive(Clone, Copy)]
+#[derive(Clone, Copy, Default)]
 pub struct Evaluation {
     pub refusal: u32,
     pub output: u32,
@@ -38,7 +38,7 @@ impl From<Result<u32, Cause>> for Evaluation {
             Ok(output) => Evaluation { refusal: 0, output },
             Err(cause) => Evaluation {
                 refusal: cause.into(),
-                output: 0,
+                ..Evaluation::default()
             },
         }
     }
@@ -46,7 +46,7 @@ impl From<Result<u32, Cause>> for Evaluation {
 
 // What Read answers: a count for each of four arrays.
 #[repr(C)]
-#[derive(Clone, Copy)]
+#[derive(Clone, Copy, Default)]
 pub struct Counts {
     pub refusal: u32,
     pub first: u32,
@@ -73,10 +73,7 @@ impl From<Result<[u32; 4], Cause>> for Counts {
             }
             Err(cause) => Counts {
                 refusal: cause.into(),
-                first: 0,
-                second: 0,
-                third: 0,
-                fourth: 0,
+                ..Counts::default()
             },
         }
     }
@@ -84,7 +81,7 @@ impl From<Result<[u32; 4], Cause>> for Counts {
 
 // What Prove answers for a whole proof.
 #[repr(C)]
-#[derive(Clone, Copy)]
+#[derive(Clone, Copy, Default)]
 pub struct Proof {
     pub refusal: u32,
     pub output: u32,
@@ -103,8 +100,7 @@ impl From<Result<prover::Proof, Cause>> for Proof {
             },
             Err(cause) => Proof {
                 refusal: cause.into(),
-                output: 0,
-                words: 0,
+                ..Proof::default()
             },
         }
     }
@@ -112,7 +108,7 @@ impl From<Result<prover::Proof, Cause>> for Proof {
 
 // What Prove answers for one message.
 #[repr(C)]
-#[derive(Clone, Copy)]
+#[derive(Clone, Copy, Default)]
 pub struct Written {
     pub refusal: u32,
     pub words: usize,
@@ -126,7 +122,7 @@ impl From<Result<usize, Cause>> for Written {
             Ok(words) => Written { refusal: 0, words },
             Err(cause) => Written {
                 refusal: cause.into(),
-                words: 0,
+                ..Written::default()
             },
         }
     }
@@ -134,7 +130,7 @@ impl From<Result<usize, Cause>> for Written {
 
 // What Step answers: a refusal, an acceptance, or the coin with which the session goes on.
 #[repr(C)]
-#[derive(Clone, Copy)]
+#[derive(Clone, Copy, Default)]
 pub struct Step {
     pub refusal: u32,
     pub accepted: u32,
@@ -147,19 +143,16 @@ impl From<Verdict> for Step {
     fn from(verdict: Verdict) -> Step {
         match verdict {
             Verdict::Accepted => Step {
-                refusal: 0,
                 accepted: 1,
-                coin: 0,
+                ..Step::default()
             },
             Verdict::GoOn(coin) => Step {
-                refusal: 0,
-                accepted: 0,
                 coin,
+                ..Step::default()
             },
             Verdict::Refused(cause) => Step {
                 refusal: cause.into(),
-                accepted: 0,
-                coin: 0,
+                ..Step::default()
             },
         }
     }
@@ -275,8 +268,7 @@ pub fn kidlothe_open(
 ) -> u32
     ensures { ExportsOpen circuit.now input.now output coins.now session.old result session.new }
 {
-    let opening = session::open(circuit, input, output, coins);
-    match opening {
+    match session::open(circuit, input, output, coins) {
         Ok(opened) => {
             *session = session_words(opened);
             0

@@ -2,13 +2,14 @@
 // that `sums` reads a gate's three words. Every function is total: of what the list has not it gives 0 or nothing.
 #![tactic(auto)]
 
-ghost use Rattle.std.specs.Prelude.{◌≡◌, ◌/◌, ◌^◌, ◌<◌, leb, length, drop, map};
+ghost use Rattle.std.specs.Prelude.{◌≡◌, ◌-◌, ◌/◌, ◌^◌, ◌<◌, leb, length, drop, map};
 ghost use Rattle.circuit.specs.Limits.{header_words};
 ghost use Rattle.circuit.specs.Circuit.{prime_of, depth, exponents, exponent_at, width_of, gates_of, gates_start, word_count};
 ghost use Rattle.circuit.specs.Sized.{Exponents};
 ghost use Rattle.layout.specs.Gates.{GatesBefore, GatesAbove};
 ghost use Rattle.layout.specs.Gate.{KindOf, gate_of, gate_in};
 
+use field::Field;
 use refusal::Cause;
 
 pub const MAX_DEPTH: usize = 16;
@@ -19,7 +20,7 @@ pub const MAX_EXPONENT: u32 = 8;
 const HEADER: usize = 2;
 
 // The words of a gate.
-const GATE: usize = 3;
+pub const GATE_WORDS: usize = 3;
 
 // What a gate does with the values of its wires. Its first word is the kind's number.
 #[derive(Clone, Copy, PartialEq, Eq, Debug)]
@@ -52,10 +53,10 @@ pub struct Gate {
     pub right: u32,
 }
 
-impl From<[u32; GATE]> for Gate {
+impl From<[u32; GATE_WORDS]> for Gate {
     ghost from_gives = { λ words gate. gate_of gate ≡ gate_in words };
 
-    fn from(words: [u32; GATE]) -> Gate {
+    fn from(words: [u32; GATE_WORDS]) -> Gate {
         let [kind, left, right] = words;
         Gate { kind, left, right }
     }
@@ -73,6 +74,13 @@ pub fn prime(circuit: &[u32]) -> u32
     ensures { result ≡ prime_of circuit.now }
 {
     lists::word(circuit, 0)
+}
+
+// The residues modulo p.
+pub fn field(circuit: &[u32]) -> Field
+    ensures { result.largest ≡ prime_of circuit.now - 1 }
+{
+    Field::of(prime(circuit))
 }
 
 // D.
@@ -140,7 +148,7 @@ fn gates_start(circuit: &[u32]) -> usize
 pub fn word_count(circuit: &[u32]) -> usize
     ensures { Exponents circuit.now → result ≡ word_count circuit.now }
 {
-    gates_start(circuit) + GATE * gates_before(circuit, depth(circuit))
+    gates_start(circuit) + GATE_WORDS * gates_before(circuit, depth(circuit))
 }
 
 // The words of all gates.
@@ -160,13 +168,13 @@ pub fn gates_above(circuit: &[u32], layer: usize) -> &[u32]
     }
     let above = layer - 1;
     let gates = all_gates(circuit);
-    let start = (GATE * gates_before(circuit, above)).min(gates.len());
-    let end = (start + GATE * width(exponent(circuit, above))).min(gates.len());
+    let start = (GATE_WORDS * gates_before(circuit, above)).min(gates.len());
+    let end = (start + GATE_WORDS * width(exponent(circuit, above))).min(gates.len());
     &gates[start..end]
 }
 
 // The gates of a list of words: what is left over at its end is none.
-pub fn gates(words: &[u32]) -> &[[u32; GATE]]
+pub fn gates(words: &[u32]) -> &[[u32; GATE_WORDS]]
     ensures { map gate_in result.now ≡ gates_of (length words.now / 3) words.now }
 {
     words.as_chunks().0

@@ -8,7 +8,7 @@ ghost use Rattle.circuit.specs.Legal.{all_below, gate_cause, gates_cause, layers
 ghost use Rattle.circuit.specs.Sized.{LegalCircuit, Sized};
 ghost use Rattle.layout.specs.Gate.{gate_of, gate_in};
 
-use layout::{Gate, Kind, MAX_DEPTH, MAX_EXPONENT};
+use layout::{GATE_WORDS, Gate, Kind, MAX_DEPTH, MAX_EXPONENT};
 use refusal::Cause;
 
 // Whether each word is below p.
@@ -33,7 +33,7 @@ fn check_gate(gate: Gate, next: usize) -> Result<(), Cause>
 }
 
 // The gates of a layer above one of `next` gates: the first that is bad.
-fn check_gates(gates: &[[u32; 3]], next: usize) -> Result<(), Cause>
+fn check_gates(gates: &[[u32; GATE_WORDS]], next: usize) -> Result<(), Cause>
     ensures { cause_of result ≡ gates_cause next (map gate_in gates.now) }
 {
     for &words in gates {

@@ -13,7 +13,7 @@ use extension::MAX_COORDINATES;
 use field::Field;
 
 // The coefficients of a line between points that fill their rows.
-pub const MAX_COEFFICIENTS: usize = 9;
+pub const MAX_COEFFICIENTS: usize = MAX_COORDINATES + 1;
 
 // The one coefficient of a line with no coordinate: the first value.
 fn first(values: &[u32]) -> u32

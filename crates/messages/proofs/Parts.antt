@@ -34,10 +34,12 @@ module _ (c : List ℕ) (layer round : ℕ) (past values buffer : List ℕ) (h :
       let some : 0 < n = pow_pos (exponent_at c layer) in
       omega (arith, at_from, wide, some, h.sized, length-take n (drop m values), length-drop m values)
 
-  pub part_values : take (from + w - from) (drop from values) ≡ values_in c layer values
-  part_values =
-      let cut : from + w - from ≡ w = omega arith in
-      ap₂ (λ (n m : ℕ). take n (drop m values)) (cut ∙ wide) at_from
+  -- the words that are read there
+  module _ (own : List ℕ) (read : own ≡ take (from + w - from) (drop from values)) where
+    pub part_values : own ≡ values_in c layer values
+    part_values =
+        let cut : from + w - from ≡ w = omega arith in
+        read ∙ ap₂ (λ (n m : ℕ). take n (drop m values)) (cut ∙ wide) at_from
 
-  pub part_writable : Writable c (place layer round) past (take (from + w - from) (drop from values)) buffer
-  part_writable = subst (λ (vs : List ℕ). Writable c (place layer round) past vs buffer) (sym part_values) h
+    pub part_writable : Writable c (place layer round) past own buffer
+    part_writable = subst (λ (vs : List ℕ). Writable c (place layer round) past vs buffer) (sym part_values) h

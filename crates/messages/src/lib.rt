@@ -6,55 +6,48 @@ ghost use Rattle.std.specs.Prelude.{true, false};
 ghost use Rattle.standing.specs.Standing.{as_place};
 ghost use Rattle.messages.specs.Writing.{WritesMessage, WritesIf};
 
-use field::Field;
-use standing::Place;
+use standing::Round;
 
 // Writes the message of a sum round to the buffer's front, from the values of its layer.
-fn write_sum(circuit: &[u32], place: Place, past: &[u32], values: &[u32], buffer: &mut [u32])
-    ensures { WritesIf false circuit.now (as_place place) past.now values.now buffer.old buffer.new }
+fn write_sum(round: Round, values: &[u32], buffer: &mut [u32])
+    ensures { WritesIf false round.entry.circuit.now (as_place round.entry.place) round.entry.past.now values.now buffer.old buffer.new }
 {
-    let stand = standing::at_round(circuit, place, past);
-    let f = Field::of(layout::prime(circuit));
+    let stand = round.stand();
     let words = sums::sum_message(
-        f,
-        layout::gates_above(circuit, place.layer),
+        layout::field(round.circuit),
+        layout::gates_above(round.circuit, round.place.layer),
         stand.point.coordinates(),
         values,
         stand.points,
         stand.own,
-        place.round,
+        round.place.round,
     );
     lists::put(buffer, &words);
 }
 
 // Writes a layer's line message to the buffer's front.
-fn write_line(circuit: &[u32], place: Place, past: &[u32], values: &[u32], buffer: &mut [u32])
-    ensures { WritesIf true circuit.now (as_place place) past.now values.now buffer.old buffer.new }
+fn write_line(round: Round, values: &[u32], buffer: &mut [u32])
+    ensures { WritesIf true round.entry.circuit.now (as_place round.entry.place) round.entry.past.now values.now buffer.old buffer.new }
 {
-    let stand = standing::at_round(circuit, place, past);
-    let f = Field::of(layout::prime(circuit));
+    let stand = round.stand();
+    let f = layout::field(round.circuit);
     let words = line::line_message(f, values, stand.points, stand.own);
     lists::put(buffer, &words[..stand.own + 1]);
 }
 
 // Writes the message of a round to the buffer's front, from the values of all layers and the coins before it. Both forms of the proof write by it.
-pub fn write_message(
-    circuit: &[u32],
-    place: Place,
-    past: &[u32],
-    values: &[u32],
-    buffer: &mut [u32],
-)
-    ensures { WritesMessage circuit.now (as_place place) past.now values.now buffer.old buffer.new }
+pub fn write_message(round: Round, values: &[u32], buffer: &mut [u32])
+    ensures { WritesMessage round.entry.circuit.now (as_place round.entry.place) round.entry.past.now values.now buffer.old buffer.new }
 {
+    let Round { circuit, place, .. } = round;
     let from = layout::gates_before(circuit, place.layer);
     let to = from + layout::width(layout::exponent(circuit, place.layer));
-    if values.len() < to {
+    let Some(own) = values.get(from..to) else {
         return;
-    }
+    };
     if place.is_line(circuit) {
-        write_line(circuit, place, past, &values[from..to], buffer);
+        write_line(round, own, buffer);
     } else {
-        write_sum(circuit, place, past, &values[from..to], buffer);
+        write_sum(round, own, buffer);
     }
 }

@@ -44,15 +44,16 @@ module _ (c : List ℕ) (legal : LegalCircuit c) where
   pub first_layer : (n : ℕ) → (1 ≤ 1) × (1 ≤ depth c) × (n ≡ layer_start c 1 + n)
   first_layer n = (omega arith, legal.some, omega (arith, sum_nil, one_output c))
 
-  module _ (n layer round k : ℕ) (low : 1 ≤ layer) (inside : layer ≤ depth c) (counted : n ≡ layer_start c layer + round) (own : k ≡ exponent_at c layer) where
+  module _ (n layer round line : ℕ) (low : 1 ≤ layer) (inside : layer ≤ depth c) (counted : n ≡ layer_start c layer + round)
+      (own : line ≡ 2 * exponent_at c layer) where
     -- past a layer's line there is another layer
-    pub next_layer : n < coin_count c → 2 * k < round → (1 ≤ layer + 1) × (layer + 1 ≤ depth c) × (n ≡ layer_start c (layer + 1) + (round - (2 * k + 1)))
+    pub next_layer : n < coin_count c → line < round → (1 ≤ layer + 1) × (layer + 1 ≤ depth c) × (n ≡ layer_start c (layer + 1) + (round - (line + 1)))
     next_layer few past =
         let next : layer_start c (layer + 1) ≡ layer_start c layer + 2 * exponent_at c layer + 1 = start_after layer low inside in
         let more : ¬ (layer ≡ depth c) = λ (e : layer ≡ depth c). omega (arith, ap (λ (i : ℕ). layer_start c (i + 1)) e, all_coins c legal) in
         (omega arith, omega (arith, more), omega arith)
 
-    pub this_layer : round ≤ 2 * k → AtRound c (place layer round) n
+    pub this_layer : round ≤ line → AtRound c (place layer round) n
     this_layer reached = record { legal = legal; first = low; last = inside; reached = omega arith; counted = counted }
 
 -- a prefix that is shorter than all coins, as the code counts them

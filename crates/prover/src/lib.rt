@@ -14,7 +14,7 @@ ghost use Rattle.prover.specs.Answers.{Proves, ProvesOne};
 
 use evaluation::MAX_VALUES;
 use refusal::Cause;
-use standing::{Job, Place};
+use standing::{Job, Place, Round};
 
 // An output, and the number of message words that were written for it.
 #[derive(Clone, Copy, PartialEq, Eq, Debug)]
@@ -43,15 +43,14 @@ fn write_all(job: Job, messages: &mut [u32]) -> Proof
     let mut at = 0;
     // Not with `..=`: such a loop ends on two paths, and each asks for a turn's proof.
     for layer in 1..layout::depth(job.circuit) + 1 {
-        for round in 0..2 * layout::exponent(job.circuit, layer) as usize + 1 {
+        for round in 0..standing::line_round(job.circuit, layer) + 1 {
             let place = Place { layer, round };
-            messages::write_message(
-                job.circuit,
+            let round = Round {
+                circuit: job.circuit,
                 place,
-                &job.coins[..n],
-                &values,
-                &mut messages[at..],
-            );
+                past: &job.coins[..n],
+            };
+            messages::write_message(round, &values, &mut messages[at..]);
             at += place.message_length(job.circuit);
             n += 1;
         }
@@ -86,7 +85,7 @@ fn place_after(circuit: &[u32], coins: usize) -> Place
     let mut layer = 1;
     let mut round = coins;
     loop {
-        let line = 2 * layout::exponent(circuit, layer) as usize;
+        let line = standing::line_round(circuit, layer);
         if round <= line {
             break Place { layer, round };
         }
@@ -118,6 +117,11 @@ pub fn prove_one(
     }
     let mut values = [0u32; MAX_VALUES];
     fill_values(circuit, input, &mut values);
-    messages::write_message(circuit, place, prefix, &values, buffer);
+    let round = Round {
+        circuit,
+        place,
+        past: prefix,
+    };
+    messages::write_message(round, &values, buffer);
     Ok(words)
 }

@@ -8,9 +8,8 @@ ghost use Rattle.protocol.specs.Session.{open_answer, record_fits};
 ghost use Rattle.standing.specs.Standing.{as_place};
 ghost use Rattle.session.specs.Answers.{record_of, opening_of, verdict_of, GoesOn, StepsOpen, Steps};
 
-use field::Field;
 use refusal::Cause;
-use standing::{Job, Place};
+use standing::{Job, Place, Round};
 
 // What a step answers.
 #[derive(Clone, Copy, PartialEq, Eq, Debug)]
@@ -57,7 +56,7 @@ impl Session {
         self.open
             && 1 <= layer
             && layer <= layout::depth(job.circuit)
-            && round <= 2 * layout::exponent(job.circuit, layer) as usize
+            && round <= standing::line_round(job.circuit, layer)
             && self.claim < layout::prime(job.circuit)
     }
 
@@ -153,12 +152,17 @@ fn step_open(job: Job, session: Session, message: &[u32]) -> Stepped
 {
     let place = session.place();
     let n = standing::coins_before(job.circuit, place.layer) + place.round;
-    let judged = judgement::judge(job.circuit, place, &job.coins[..n], session.claim, message);
+    let round = Round {
+        circuit: job.circuit,
+        place,
+        past: &job.coins[..n],
+    };
+    let judged = judgement::judge(round, session.claim, message);
     if let Err(cause) = judged {
         return refusal(cause, session.ended());
     }
     let coin = job.coins[n];
-    let claim = polynomial::value_at(Field::of(layout::prime(job.circuit)), message, coin);
+    let claim = polynomial::value_at(layout::field(job.circuit), message, coin);
     go_on(job, session, coin, claim)
 }
 

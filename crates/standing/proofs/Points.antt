@@ -1,12 +1,12 @@
 -- The points that the check reads off the coins.
 -- Assumes nothing.
 use Prim.Native.Nat.{ℕ, zero, suc, ◌+◌, ◌-◌, ◌*◌, ◌≤◌, ◌<◌, min}
-use mathlib.Core.Path.{◌≡◌, sym, ap, ap₂, ◌∙◌, subst}
+use mathlib.Core.Path.{◌≡◌, refl, sym, ap, ap₂, ◌∙◌, subst}
 use mathlib.Core.List.{List}
 use native.Mathlib.Decide.{dec_lt}
 use native.Mathlib.Omega.{arith}
 use lib.ListN.{length, length-drop, take, drop, get_or, drop_of_length-le}
-use lib.Seq.{take_all, drop-drop, get_or-drop, length-take-le}
+use lib.Seq.{take_all, get_or-drop, length-take-le}
 use Rattle.lists.proofs.Count.{sum_nil}
 use Rattle.lists.proofs.Front.{front_whole, front_take}
 use Rattle.algebra.specs.Numbers.{words}
@@ -25,21 +25,15 @@ use Rattle.standing.specs.Standing.{AtLayer, Row}
 pub row_whole : {l m r : List ℕ} → l ≡ m → length m ≤ row_length → Row (take row_length l) r → Row m r
 row_whole {l} {m} {r} e h row = front_whole row_length m r h (subst (λ (a : List ℕ). Row (take row_length a) r) e row)
 
--- where the coins of the layer above stand among those so far: k for its first point, k for its second, and last the line's
-abbrev pub last_coin : List ℕ → ℕ
-last_coin past = length past - 1
+-- the coins of a layer of exponent k, where they are the last of those so far
+abbrev pub last_coins : List ℕ → ℕ → List ℕ
+last_coins past k = drop (length past - (2 * k + 1)) past
 
-abbrev pub second_start : List ℕ → ℕ → ℕ
-second_start past k = last_coin past - k
-
-abbrev pub first_start : List ℕ → ℕ → ℕ
-first_start past k = second_start past k - k
-
--- the rows of the two points, and the point that their line has at its coin
-pub record LineRows (p : ℕ) (past : List ℕ) (k : ℕ) (u v r : List ℕ) : Type 0 where
-  pub first : Row (take row_length (take (second_start past k - first_start past k) (drop (first_start past k) past))) u
-  pub second : Row (take row_length (take (last_coin past - second_start past k) (drop (second_start past k) past))) v
-  pub point : r ≡ line_point (words p) u v (get_or past (last_coin past) 0)
+-- its coins in parts, k for the row of its first point, k for that of its second and one for its line, and the point that the line has there
+pub record LineRows (p : ℕ) (coins : List ℕ) (k : ℕ) (u v r : List ℕ) : Type 0 where
+  pub first : Row (take row_length (take k coins)) u
+  pub second : Row (take row_length (take k (drop k coins))) v
+  pub point : r ≡ line_point (words p) u v (get_or (drop k (drop k coins)) 0 0)
 
 module _ (c : List ℕ) (l : ℕ) (past : List ℕ) (h : AtLayer c (suc (suc l)) (length past)) where
   inside : suc l ≤ depth c
@@ -79,35 +73,21 @@ module _ (c : List ℕ) (l : ℕ) (past : List ℕ) (h : AtLayer c (suc (suc l))
   above_length = ap length point_own ∙ line_point_length (prime_of c) _ _ _ (first_long ∙ sym second_long) ∙ first_long
 
   -- its coins are where the code looks for them
-  module _ (k : ℕ) (ek : k ≡ K) where
-    first_there : take (second_start past k - first_start past k) (drop (first_start past k) past) ≡ take K cs
-    first_there =
-        let size = above_coins in
-        let place : first_start past k ≡ s = omega arith in
-        let wide : second_start past k - first_start past k ≡ K = omega arith in
-        ap₂ (λ (n i : ℕ). take n (drop i past)) wide place
+  own_last : last_coins past K ≡ cs
+  own_last = let size = above_coins in let place : length past - (2 * K + 1) ≡ s = omega arith in ap (λ (i : ℕ). drop i past) place
 
-    second_there : take (last_coin past - second_start past k) (drop (second_start past k) past) ≡ take K (drop K cs)
-    second_there =
-        let size = above_coins in
-        let place : second_start past k ≡ s + K = omega arith in
-        let wide : last_coin past - second_start past k ≡ K = omega arith in
-        ap₂ (λ (n i : ℕ). take n (drop i past)) wide place ∙ ap (take K) (sym (drop-drop K s past))
+  line_coin : get_or (drop K (drop K cs)) 0 0 ≡ get_or cs (2 * K) 0
+  line_coin = get_or-drop K (drop K cs) 0 0 ∙ get_or-drop K cs (K + 0) 0 ∙ ap (λ (i : ℕ). get_or cs i 0) (omega arith)
 
-    last_there : get_or past (last_coin past) 0 ≡ get_or cs (2 * K) 0
-    last_there =
-        let size = above_coins in
-        let place : last_coin past ≡ s + 2 * K = omega arith in
-        ap (λ (i : ℕ). get_or past i 0) place ∙ sym (get_or-drop s past (2 * K) 0)
-
-    line_row : (u v r : List ℕ) → LineRows (prime_of c) past k u v r → take k r ≡ point_at c (suc (suc l)) past
-    line_row u v r rows =
-        let N = words (prime_of c) in
-        let t : ℕ = get_or past (last_coin past) 0 in
-        let front-u : take K u ≡ take K cs = front_take (row_whole first_there (rw first_long fits) rows.first) K (sym first_long) in
-        let front-v : take K v ≡ take K (drop K cs) = front_take (row_whole second_there (rw second_long fits) rows.second) K (sym second_long) in
-        ap₂ take ek rows.point ∙ take_line N K u v t ∙ ap₂ (λ (a b : List ℕ). line_point N a b t) front-u front-v
-        ∙ ap (line_point N (take K cs) (take K (drop K cs))) last_there ∙ sym point_own
+  line_row : (u v r : List ℕ) → LineRows (prime_of c) (last_coins past K) K u v r → take K r ≡ point_at c (suc (suc l)) past
+  line_row u v r found =
+      let N = words (prime_of c) in
+      let rows = subst (λ (l : List ℕ). LineRows (prime_of c) l K u v r) own_last found in
+      let t : ℕ = get_or (drop K (drop K cs)) 0 0 in
+      let front-u : take K u ≡ take K cs = front_take (row_whole refl (rw first_long fits) rows.first) K (sym first_long) in
+      let front-v : take K v ≡ take K (drop K cs) = front_take (row_whole refl (rw second_long fits) rows.second) K (sym second_long) in
+      ap (take K) rows.point ∙ take_line N K u v t ∙ ap₂ (λ (a b : List ℕ). line_point N a b t) front-u front-v
+      ∙ ap (line_point N (take K cs) (take K (drop K cs))) line_coin ∙ sym point_own
 
 -- the same, of a layer that is not the first
 module _ (c : List ℕ) (past : List ℕ) where
@@ -122,14 +102,15 @@ module _ (c : List ℕ) (past : List ℕ) where
   standing_enough layer k h ne ek = omega (arith, ek, standing_coins layer h ne)
 
   pub standing_row : (layer k : ℕ) (u v r : List ℕ) → AtLayer c layer (length past) → 2 ≤ layer → k ≡ exponent_at c (layer - 1)
-      → LineRows (prime_of c) past k u v r → take (min k row_length) r ≡ point_at c layer past
+      → LineRows (prime_of c) (last_coins past k) k u v r → take (min k row_length) r ≡ point_at c layer past
   standing_row zero k u v r h ne ek rows = absurd (let low : 1 ≤ 0 = h.there.first in omega arith)
   standing_row (suc zero) k u v r h ne ek rows = absurd (omega arith)
   standing_row (suc (suc l)) k u v r h ne ek rows =
       let e : suc (suc l) - 1 ≡ suc l = omega arith in
       let own : k ≡ exponent_at c (suc l) = ek ∙ ap (exponent_at c) e in
       let small = fits c l past h in
-      ap (λ (n : ℕ). take n r) (omega (arith, own, small)) ∙ line_row c l past h k own u v r rows
+      ap (λ (n : ℕ). take n r) (omega (arith, own, small))
+      ∙ line_row c l past h u v r (subst (λ (n : ℕ). LineRows (prime_of c) (last_coins past n) n u v r) own rows)
 
   first_length : AtLayer c 1 (length past) → length (point_at c 1 past) ≡ exponent_at c 0
   first_length h = length-take-le (output_exponent c) past (omega (arith, h.counted, sum_nil))

@@ -2,16 +2,15 @@
 // function is total; some promise nothing where the list is no legal circuit or the coins are not those before the place.
 #![tactic(auto)]
 
-ghost use Rattle.std.specs.Prelude.{◌≡◌, ◌≤◌, ◌-◌, length, take};
+ghost use Rattle.std.specs.Prelude.{◌≡◌, ◌*◌, ◌≤◌, ◌-◌, length, take};
 ghost use Rattle.extension.specs.Limits.{row_length};
 ghost use Rattle.circuit.specs.Limits.{max_depth};
-ghost use Rattle.circuit.specs.Circuit.{exponents};
+ghost use Rattle.circuit.specs.Circuit.{exponents, exponent_at};
 ghost use Rattle.protocol.specs.Rounds.{is_line};
 ghost use Rattle.protocol.specs.Judge.{message_length};
 ghost use Rattle.standing.specs.Standing.{as_place, Row, PointStands, LayerSoFar, layer_sum, CoinsBefore, CoinsOf, WordsOf, ChecksCoins, StandsAt};
 
 use extension::MAX_COORDINATES;
-use field::Field;
 use layout::MAX_DEPTH;
 use refusal::Cause;
 use std::marker::Model;
@@ -27,12 +26,19 @@ pub struct Place {
     pub round: usize,
 }
 
+// The number of the round that is a layer's line.
+pub fn line_round(circuit: &[u32], layer: usize) -> usize
+    ensures { result ≡ 2 * exponent_at circuit.now layer }
+{
+    2 * layout::exponent(circuit, layer) as usize
+}
+
 impl Place {
     // Whether its round is its layer's line.
     pub fn is_line(self, circuit: &[u32]) -> bool
         ensures { result ≡ is_line circuit.now (as_place self) }
     {
-        self.round == 2 * layout::exponent(circuit, self.layer) as usize
+        self.round == line_round(circuit, self.layer)
     }
 
     // The words of its round's message.
@@ -157,15 +163,14 @@ pub fn standing_point(circuit: &[u32], layer: usize, past: &[u32]) -> Point
         return Point::new(past);
     }
     let k = layout::exponent(circuit, layer - 1) as usize;
-    if past.len() < 2 * k + 1 {
+    let Some(start) = past.len().checked_sub(2 * k + 1) else {
         return Point::default();
-    }
-    let t = past.len() - 1;
-    let v = t - k;
-    let u = v - k;
-    let points = [row(&past[u..v]), row(&past[v..t])];
+    };
+    let (u, rest) = past[start..].split_at(k);
+    let (v, end) = rest.split_at(k);
+    let f = layout::field(circuit);
     Point {
-        row: summand::line_point(Field::of(layout::prime(circuit)), points, past[t]),
+        row: summand::line_point(f, [row(u), row(v)], end[0]),
         count: k.min(MAX_COORDINATES),
     }
 }
@@ -180,20 +185,37 @@ pub struct Stand {
     pub points: [[u32; MAX_COORDINATES]; 2],
 }
 
-// What stands at a place, from the coins before it; nothing where there is no such round. Whatever the list, `own` is no more than a row's
-// length.
-pub fn at_round(circuit: &[u32], place: Place, past: &[u32]) -> Stand
-    ensures { StandsAt circuit.now (as_place place) past.now result }
-{
-    if place.layer < 1 || past.len() < place.round {
-        return Stand::default();
-    }
-    let own = (layout::exponent(circuit, place.layer) as usize).min(MAX_COORDINATES);
-    let (before, coins) = past.split_at(past.len() - place.round);
-    let (u, v) = coins.split_at(place.round.min(own));
-    Stand {
-        point: standing_point(circuit, place.layer, before),
-        own,
-        points: [row(u), row(v)],
+// A place of a circuit's walk, with the coins before it.
+#[derive(Clone, Copy)]
+pub struct Round<'a> {
+    pub circuit: &'a [u32],
+    pub place: Place,
+    pub past: &'a [u32],
+}
+
+impl Round<'_> {
+    // What stands at it; nothing where there is no such round. Whatever the list, `own` is no more than a row's length.
+    pub fn stand(self) -> Stand
+        ensures { StandsAt self.entry.circuit.now (as_place self.entry.place) self.entry.past.now result }
+    {
+        let Round {
+            circuit,
+            place: Place { layer, round },
+            past,
+        } = self;
+        if layer < 1 {
+            return Stand::default();
+        }
+        let Some(start) = past.len().checked_sub(round) else {
+            return Stand::default();
+        };
+        let own = (layout::exponent(circuit, layer) as usize).min(MAX_COORDINATES);
+        let (before, coins) = past.split_at(start);
+        let (u, v) = coins.split_at(round.min(own));
+        Stand {
+            point: standing_point(circuit, layer, before),
+            own,
+            points: [row(u), row(v)],
+        }
     }
 }

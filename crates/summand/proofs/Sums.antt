@@ -3,10 +3,9 @@
 use mathlib.Core.Path.{◌≡◌, refl, sym, ap, ◌∙◌}
 use mathlib.Core.Logic.{◌≢◌}
 use mathlib.Core.Bool.{Bool, true, false, cond}
-use mathlib.Core.List.{List}
+use mathlib.Core.List.{List, [], ◌∷◌}
 use Prim.Native.Nat.{ℕ, suc, ◌+◌, ◌*◌, ◌%◌, ◌≤◌, ◌<◌}
-use native.Mathlib.Nat.{zero-add, zero-mul, zero-mod, mod-eq_of_lt}
-use native.Mathlib.Numerals.{add-one}
+use native.Mathlib.Nat.{zero-add, add-zero, mod-eq_of_lt, mod-mod}
 use native.Mathlib.Omega.{arith}
 use borrow.Author.Tests.{eq-eqb, ne_eqb, eqb-true, eqb-false}
 use lib.Dec.{eqb}
@@ -96,34 +95,19 @@ module _ (p : ℕ) (gs : List Gate) (point u v : List ℕ) where
       whole : ℕ → ℕ
       whole kind = wiring (words p) kind gs point u v
 
--- FROM THE SUMS, kind by kind
-module _ (p : ℕ) (sums : List ℕ) (x y : ℕ) where
-  abbrev term : ℕ → ℕ → ℕ
-  term i sum = (words p).mul sum (operate (words p) (suc i) x y)
+-- FROM THE SUMS, kind by kind: what a kind gives is a residue, and nothing is added behind the last
+module _ (p x y : ℕ) where
+  abbrev pub given : ℕ → ℕ → ℕ
+  given sum kind = (words p).mul sum (operate (words p) kind x y)
 
-  abbrev pub added : ℕ → ℕ
-  added i = sum_to p term 0 sums i
-
-  pub none_added : 0 ≡ added 0
-  none_added = to_none p term 0 sums
-
-  module _ (total i : ℕ) (more : i < length sums) (h : total ≡ added i) where
-    pub one_added : (value next : ℕ) → value ≡ operate (words p) (i + 1) x y → next ≡ (words p).add ((words p).mul (get_or sums i 0) value) total → next ≡ added (i + 1)
-    one_added value next ev en =
-        en ∙ to_next p term 0 sums i (get_or sums i 0) _ total more refl
-        (ap ((words p).mul (get_or sums i 0)) (ev ∙ ap (λ (k : ℕ). operate (words p) k x y) (add-one i))) h
-
-    -- a sum that is 0 adds nothing
-    pub zero_added : 0 < p → get_or sums i 0 ≡ 0 → total ≡ added (i + 1)
-    zero_added pos e =
-        let value : ℕ = operate (words p) (i + 1) x y in
-        let below : total < p = rw h (sum_from_below p pos term 0 (take i sums)) in
-        one_added value total refl
-        (sym (ap (λ (n : ℕ). ((n * value) % p + total) % p) e ∙ ap (λ (n : ℕ). (n % p + total) % p) (zero-mul value)
-        ∙ ap (λ (n : ℕ). (n + total) % p) (zero-mod p) ∙ plus_zero p total below))
-
-  pub all_added : (i : ℕ) → length sums ≤ i → added i ≡ by_kinds (words p) sums x y
-  all_added i h = to_all p term 0 sums i h
+  pub each_added : (sums : List ℕ) → length sums ≡ max_kind → (words p).add (given (get_or sums 0 0) 1) (given (get_or sums 1 0) 2) ≡ by_kinds (words p) sums x y
+  unfolding sum_from
+  each_added [] e = absurd (omega arith)
+  each_added (a ∷ []) e = absurd (omega arith)
+  each_added (a ∷ b ∷ c ∷ l) e = absurd (omega arith)
+  each_added (a ∷ b ∷ []) e =
+      let m : ℕ = b * operate (words p) 2 x y in
+      ap ((words p).add (given a 1)) (sym (ap (λ (n : ℕ). n % p) (add-zero (m % p)) ∙ mod-mod m p))
 
 -- the summand, from all of them
 pub from_sums : (N : Numbers ℕ) (gs : List Gate) (point u v : List ℕ) (x y : ℕ) → by_kinds N (wirings N gs point u v) x y ≡ combined N gs point u v x y

@@ -3,6 +3,8 @@
 
 ghost use Rattle.std.specs.Prelude.{◌≡◌, [], take, get_or};
 ghost use Rattle.field.specs.Modulus.{numbers};
+ghost use Rattle.circuit.specs.Gate.{operate};
+ghost use Rattle.layout.specs.Gate.{kind_number};
 ghost use Rattle.sumcheck.specs.Summand.{gate_weight, combined, line_point};
 ghost use Rattle.summand.specs.Gates.{gates_in, PlaceOf, wirings, by_kinds};
 
@@ -29,6 +31,7 @@ pub fn line_point(f: Field, points: [[u32; MAX_COORDINATES]; 2], t: u32) -> [u32
 {
     let [u, v] = points;
     let mut line = [0u32; MAX_COORDINATES];
+    // The words of both rows by place, as the line's is written: a zip beside the index would be no plainer.
     for (i, &x) in u.iter().enumerate() {
         line[i] = f.add(x, scaled(f, t, f.sub(v[i], x)));
     }
@@ -72,18 +75,25 @@ fn wirings(f: Field, gates: &[u32], point: &[u32], u: &[u32], v: &[u32]) -> [u32
     sums
 }
 
-// The sums, each times what its kind does with x and y: the sum at place i is of kind i + 1. A kind whose sum is 0 costs no product.
+// The sum over the gates of a kind times what it does with x and y. A kind whose sum is 0 costs no product.
+fn by_kind(f: Field, sum: u32, kind: Kind, x: u32, y: u32) -> u32
+    ensures { result ≡ (numbers f).mul sum (operate (numbers f) (kind_number kind) x y) }
+{
+    if sum == 0 {
+        return Field::ZERO;
+    }
+    f.mul(sum, evaluation::gate_value(f, kind as u32, x, y))
+}
+
+// The sums, each times what its kind does with x and y.
 fn by_kinds(f: Field, sums: [u32; KINDS], x: u32, y: u32) -> u32
     ensures { result ≡ by_kinds (numbers f) sums x y }
 {
-    let mut total = Field::ZERO;
-    for (i, &sum) in sums.iter().enumerate() {
-        if sum != 0 {
-            let value = evaluation::gate_value(f, i as u32 + 1, x, y);
-            total = f.add(f.mul(sum, value), total);
-        }
-    }
-    total
+    let [added, multiplied] = sums;
+    f.add(
+        by_kind(f, added, Kind::Add, x, y),
+        by_kind(f, multiplied, Kind::Multiply, x, y),
+    )
 }
 
 // The summand at the two points, the first k coordinates of each row, where the next layer's extension is x at the first and y at the second.

@@ -15,8 +15,8 @@ ghost use Rattle.tables.specs.Table.{Written, spread, paired};
 use extension::MAX_COORDINATES;
 use field::Field;
 
-// The words of a table.
-pub const MAX_WIDTH: usize = 256;
+// The words of a table: one for each index at a point that fills its row.
+pub const MAX_WIDTH: usize = 1 << MAX_COORDINATES;
 
 // Replaces each pair of words, one from either half of a table, by the two that the step makes of them.
 fn each_pair<F: Fn(u32, u32) -> (u32, u32)>(table: &mut [u32], step: F)

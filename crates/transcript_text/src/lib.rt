@@ -43,7 +43,7 @@ fn write_messages(circuit: &[u32], messages: &[u32], text: &mut [u8]) -> usize
     let mut to = 0;
     // Not with `..=`: such a loop ends on two paths, and each asks for a turn's proof.
     for layer in 1..layout::depth(circuit) + 1 {
-        for round in 0..2 * layout::exponent(circuit, layer) as usize + 1 {
+        for round in 0..standing::line_round(circuit, layer) + 1 {
             let place = Place { layer, round };
             let end = at + place.message_length(circuit);
             to += write_message(circuit, place, &messages[at..end], &mut text[to..]);
@@ -68,8 +68,7 @@ pub fn write_lists(circuit: &[u32], input: &[u32], coins: &[u32], text: &mut [u8
         text.old text.new result }
 {
     let mut messages = [0u32; MAX_MESSAGE_WORDS];
-    let proved = prover::prove(circuit, input, coins, &mut messages);
-    match proved {
+    match prover::prove(circuit, input, coins, &mut messages) {
         Err(cause) => printing::write_refused(cause, text),
         Ok(proof) => write_proof(circuit, proof.output, &messages[..proof.words], text),
     }

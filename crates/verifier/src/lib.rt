@@ -8,9 +8,8 @@ ghost use Rattle.walk.specs.Game.{final_cause};
 ghost use Rattle.protocol.specs.Judge.{input_agrees};
 ghost use Rattle.protocol.specs.Check.{walk_from, check_answer};
 
-use field::Field;
 use refusal::Cause;
-use standing::{Job, Place};
+use standing::{Job, Place, Round};
 
 // The answer after the last message.
 fn finish(job: Job, claim: u32) -> Result<(), Cause>
@@ -28,7 +27,7 @@ fn walk(job: Job, first: u32, messages: &[u32]) -> Result<(), Cause>
     requires { length messages.now ≡ message_words job.circuit.now }
     ensures { cause_of result ≡ walk_from job.entry.circuit.now job.entry.input.now first job.entry.coins.now messages.now }
 {
-    let f = Field::of(layout::prime(job.circuit));
+    let f = layout::field(job.circuit);
     let depth = layout::depth(job.circuit);
     let mut claim = first;
     let mut layer = 1;
@@ -39,11 +38,16 @@ fn walk(job: Job, first: u32, messages: &[u32]) -> Result<(), Cause>
             break 'walk finish(job, claim);
         }
         // Not up to the line's number with `..=`: such a loop ends on two paths, and each asks for a turn's proof.
-        for round in 0..2 * layout::exponent(job.circuit, layer) as usize + 1 {
+        for round in 0..standing::line_round(job.circuit, layer) + 1 {
             let place = Place { layer, round };
             let end = at + place.message_length(job.circuit);
             let message = &messages[at..end];
-            let judged = judgement::judge(job.circuit, place, &job.coins[..n], claim, message);
+            let round = Round {
+                circuit: job.circuit,
+                place,
+                past: &job.coins[..n],
+            };
+            let judged = judgement::judge(round, claim, message);
             if let Err(cause) = judged {
                 break 'walk Err(cause);
             }

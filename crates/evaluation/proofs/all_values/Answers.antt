@@ -76,7 +76,7 @@ loop-layer-preserved c =
     let all = c.gates-gates.ensures ∙ ap (λ (ws : List ℕ). gates_of (length ws / 3) ws) c.all_gates.ensures in
     let l = c.args.circuit.now in
     let legal = (legal_lists l c.args.input.now c.requires.0).circuit in
-    let prime = prime_modulus l legal _ _ c.prime.ensures c.of-f.ensures in
+    let prime = prime_modulus l legal _ c.field-f.ensures in
     let gates = turn_gates _ _ c.requires.0 _ _ _ _ t.0 t.1 t.2 c.gates-gates.result.now all in
     turn_filled _ _ c.requires.0 _ _ _ _ t.0 t.1 t.2 _ (rw (gates, prime) at c.fill_layer.ensures)
 

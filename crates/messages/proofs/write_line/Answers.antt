@@ -11,17 +11,18 @@ use Rattle.messages.proofs.write_line.Goals as goal
 
 pub returns : goal.returns
 returns c il h =
-    let l = c.args.circuit.now in
-    let past = c.args.past.now in
+    let a = c.args.round in
+    let l = a.circuit.now in
+    let past = a.past.now in
     let vs = c.args.values.now in
-    let st = c.at_round-stand.result in
-    let t = c.at_round-stand.ensures.stands h.there in
-    let r = place c.args.place.layer c.args.place.round in
+    let st = c.stand-stand.result in
+    let t = c.stand-stand.ensures.stands h.there in
+    let r = place a.place.layer a.place.round in
     let n : st.own + 1 ≡ message_length l r = length_of_line l r st.own t.own il in
-    let f = prime_modulus l h.there.legal _ _ c.prime.ensures c.of-f.ensures in
+    let f = prime_modulus l h.there.legal _ c.field-f.ensures in
     let words = c.line_message-words in
     let said =
     ap (take (st.own + 1)) (words.ensures ∙ ap (λ (p : ℕ). lined p vs st) f)
-    ∙ line_words l c.args.place.layer c.args.place.round past vs c.args.buffer.now h st t il (st.own + 1) n in
+    ∙ line_words l a.place.layer a.place.round past vs c.args.buffer.now h st t il (st.own + 1) n in
     let room = subst (λ (i : ℕ). i ≤ length c.args.buffer.now) (sym n) h.room in
     written words.result c.args.buffer.now _ _ (st.own + 1) room said c.put.ensures.items

@@ -1,6 +1,7 @@
 -- `write_message` meets its contract: the part of all values that it lends on is the layer's.
 use Prim.Native.Nat.{ℕ}
 use mathlib.Core.List.{List}
+use mathlib.Core.Logic.{inl, inr}
 use mathlib.Core.Path.{sym, ap, ◌∙◌}
 use native.Mathlib.Omega.{arith}
 use Rattle.lists.specs.Buffer.{over}
@@ -14,28 +15,35 @@ use Rattle.messages.proofs.write_message.Goals as goal
 pub overflow_add-to : goal.overflow_add-to
 overflow_add-to c = let few = part_small _ _ _ _ _ c.gates_before-from.ensures c.width.ensures in search rules
 
-pub returns-then-values-to : goal.returns-then-values-to
-returns-then-values-to c h =
+pub returns-in_default : goal.returns-in_default
+returns-in_default c h =
     let wide = c.width.ensures ∙ ap width_of c.exponent.ensures in
     let inside = part_inside _ _ _ _ _ _ h _ _ c.gates_before-from.ensures wide in
-    absurd (omega (arith, inside, c.if-values-to.true))
+    elim c.in_default.ensures.lookup.0 [
+      | inl backwards ↦ absurd (omega (arith, backwards))
+      | inr outside ↦ absurd (omega (arith, inside, outside))
+    ]
 
 pub returns-then-is_line : goal.returns-then-is_line
 returns-then-is_line c h =
-    let a = c.args in
+    let a = c.args.round in
     let circuit = a.circuit.now in
     let before = c.gates_before-from.ensures in
     let wide = c.width.ensures ∙ ap width_of c.exponent.ensures in
-    c.write_line.ensures (sym c.is_line.ensures ∙ search rules) (part_writable _ _ _ _ _ _ h _ _ before wide)
-    ∙ ap (λ (vs : List ℕ). over (message_from circuit vs (place a.place.layer a.place.round) a.past.now) a.buffer.now)
-    (part_values _ _ _ _ _ _ h _ _ before wide)
+    let own = c.in-Some.own.now in
+    let read = c.in-Some.ensures.lookup.0.2 in
+    c.write_line.ensures (sym c.is_line.ensures ∙ search rules) (part_writable _ _ _ _ _ _ h _ _ before wide own read)
+    ∙ ap (λ (vs : List ℕ). over (message_from circuit vs (place a.place.layer a.place.round) a.past.now) c.args.buffer.now)
+    (part_values _ _ _ _ _ _ h _ _ before wide own read)
 
 pub returns-else-is_line : goal.returns-else-is_line
 returns-else-is_line c h =
-    let a = c.args in
+    let a = c.args.round in
     let circuit = a.circuit.now in
     let before = c.gates_before-from.ensures in
     let wide = c.width.ensures ∙ ap width_of c.exponent.ensures in
-    c.write_sum.ensures (sym c.is_line.ensures ∙ search rules) (part_writable _ _ _ _ _ _ h _ _ before wide)
-    ∙ ap (λ (vs : List ℕ). over (message_from circuit vs (place a.place.layer a.place.round) a.past.now) a.buffer.now)
-    (part_values _ _ _ _ _ _ h _ _ before wide)
+    let own = c.in-Some.own.now in
+    let read = c.in-Some.ensures.lookup.0.2 in
+    c.write_sum.ensures (sym c.is_line.ensures ∙ search rules) (part_writable _ _ _ _ _ _ h _ _ before wide own read)
+    ∙ ap (λ (vs : List ℕ). over (message_from circuit vs (place a.place.layer a.place.round) a.past.now) c.args.buffer.now)
+    (part_values _ _ _ _ _ _ h _ _ before wide own read)

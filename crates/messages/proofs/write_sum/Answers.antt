@@ -8,15 +8,16 @@ use Rattle.messages.proofs.write_sum.Goals as goal
 
 pub returns : goal.returns
 returns c nl h =
-    let a = c.args in
-    let vs = a.values.now in
+    let a = c.args.round in
+    let vs = c.args.values.now in
+    let before = c.args.buffer.now in
     let above = c.gates_above.result.now in
-    let st = c.at_round-stand.result in
-    let t = c.at_round-stand.ensures.stands h.there in
-    let f = prime_modulus a.circuit.now h.there.legal _ _ c.prime.ensures c.of-f.ensures in
+    let st = c.stand-stand.result in
+    let t = c.stand-stand.ensures.stands h.there in
+    let f = prime_modulus a.circuit.now h.there.legal _ c.field.ensures in
     let point = c.coordinates.ensures in
     let whole : take row_length c.coordinates.result.now ≡ st.point = take_all row_length c.coordinates.result.now point.few ∙ point.all in
     let said =
     rw whole at c.sum_message-words.ensures ∙ ap (λ (p : ℕ). summed p above vs a.place.round st) f
-    ∙ sum_words _ a.place.layer a.place.round a.past.now vs a.buffer.now h st t nl above c.gates_above.ensures in
-    sum_written _ a.place.layer a.place.round a.past.now vs a.buffer.now h c.sum_message-words.result _ said c.put.ensures.items
+    ∙ sum_words _ a.place.layer a.place.round a.past.now vs before h st t nl above c.gates_above.ensures in
+    sum_written _ a.place.layer a.place.round a.past.now vs before h c.sum_message-words.result _ said c.put.ensures.items

@@ -15,9 +15,9 @@ overflow_add-layer c =
 pub loop-round-preserved : goal.loop-round-preserved
 loop-round-preserved c =
     let at = c.loop-round in
-    next_layer _ c.requires.0 _ _ _ _ at.invariant.0 at.invariant.1 at.invariant.2 c.exponent.ensures c.requires.1 c.if-round-line.false
+    next_layer _ c.requires.0 _ _ _ _ at.invariant.0 at.invariant.1 at.invariant.2 c.line_round-line.ensures c.requires.1 c.if-round-line.false
 
 pub returns : goal.returns
 returns c =
     let at = c.loop-round in
-    this_layer _ c.requires.0 _ _ _ _ at.invariant.0 at.invariant.1 at.invariant.2 c.exponent.ensures c.if-round-line.true
+    this_layer _ c.requires.0 _ _ _ _ at.invariant.0 at.invariant.1 at.invariant.2 c.line_round-line.ensures c.if-round-line.true

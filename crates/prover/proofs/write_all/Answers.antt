@@ -1,6 +1,6 @@
 -- `write_all` meets its contract: the messages of the rounds before stand over the buffer's front, and the loops end where none is left. The
 -- inner loop goes on with whatever buffer the outer one started from.
-use Prim.Native.Nat.{ℕ, ◌+◌, ◌-◌, ◌*◌, ◌≤◌}
+use Prim.Native.Nat.{ℕ, ◌+◌, ◌-◌, ◌≤◌}
 use mathlib.Core.Path.{ap, ◌∙◌, subst}
 use mathlib.Core.List.{List}
 use native.Mathlib.Omega.{arith}
@@ -29,7 +29,7 @@ loop-layer-init c = (
 pub loop-round-init : goal.loop-round-init
 loop-round-init c = (
   c.loop-layer.invariant.0,
-  ap (λ (k : ℕ). 2 * k + 1) c.exponent.ensures,
+  ap (λ (n : ℕ). n + 1) c.line_round-round-end.ensures,
   λ first h b. layer_starts _ _ _ first c.args.job.counted h b (omega (arith, c.loop-layer-test.true, c.loop-layer.invariant.0)),
 )
 

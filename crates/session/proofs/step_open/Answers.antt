@@ -13,8 +13,8 @@ overflow_add-n c =
     let few = coins_few _ c.args.job.counted c.requires _ (number_is _ c.args.job.counted c.requires c.place-place.ensures c.coins_before.ensures) in
     omega arith
 
-pub slice_bounds-judge-end : goal.slice_bounds-judge-end
-slice_bounds-judge-end c =
+pub slice_bounds-round-end : goal.slice_bounds-round-end
+slice_bounds-round-end c =
     let there = coin_inside _ c.args.job.counted c.requires _ (number_is _ c.args.job.counted c.requires c.place-place.ensures c.coins_before.ensures) in
     sym (length-take-le _ _ (omega arith))
 
@@ -42,7 +42,7 @@ returns c =
     let here = c.place-place.ensures in
     let n : ℕ = c.coins_before.result + c.place-place.result.round in
     let number = number_is _ c.args.job.counted c.requires here c.coins_before.ensures in
-    let f = prime_modulus _ (its_circuit c.args.job.counted) _ _ c.prime.ensures c.of.ensures in
+    let f = prime_modulus _ (its_circuit c.args.job.counted) _ c.field.ensures in
     let y = c.value_at-claim.ensures ∙ ap (λ (p : ℕ). value_at (words p) m (get_or c.args.job.coins.now n 0)) f in
     let passed = none_told c.in_default.is (c.judge-judged.ensures (at_round _ c.args.job.counted c.requires n number here)) in
     passed_open _ c.args.job.counted c.requires n number m here passed _ (rw y at c.go_on.ensures)

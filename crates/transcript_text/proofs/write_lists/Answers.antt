@@ -11,32 +11,32 @@ use Rattle.transcript_text.proofs.write_lists.Goals as goal
 pub slice_bounds-messages-end : goal.slice_bounds-messages-end
 slice_bounds-messages-end c =
     let a = c.args in
-    let call = c.prove-proved in
+    let call = c.prove in
     let w = printed_proved a.circuit.now a.input.now a.coins.now _ (omega arith) _ _ _ (told proved_of c.in-Ok.is call.ensures.answer) call.ensures.buffer in
     w.inside
 
 pub slice_bounds-write_proof-end : goal.slice_bounds-write_proof-end
 slice_bounds-write_proof-end c =
     let a = c.args in
-    let call = c.prove-proved in
+    let call = c.prove in
     let w = printed_proved a.circuit.now a.input.now a.coins.now _ (omega arith) _ _ _ (told proved_of c.in-Ok.is call.ensures.answer) call.ensures.buffer in
     sym (length-take-le _ _ w.inside)
 
 pub write_proof-requires : goal.write_proof-requires
 write_proof-requires c =
     let a = c.args in
-    let call = c.prove-proved in
+    let call = c.prove in
     let w = printed_proved a.circuit.now a.input.now a.coins.now _ (omega arith) _ _ _ (told proved_of c.in-Ok.is call.ensures.answer) call.ensures.buffer in
     (w.legal, w.words)
 
 pub returns-in-Err : goal.returns-in-Err
 returns-in-Err c =
     wrote_as _ _ _ _ c.write_refused.ensures _
-    (printed_refused _ _ _ _ (omega arith) _ (told proved_of c.in-Err.is c.prove-proved.ensures.answer))
+    (printed_refused _ _ _ _ (omega arith) _ (told proved_of c.in-Err.is c.prove.ensures.answer))
 
 pub returns-in-Ok : goal.returns-in-Ok
 returns-in-Ok c =
     let a = c.args in
-    let call = c.prove-proved in
+    let call = c.prove in
     let w = printed_proved a.circuit.now a.input.now a.coins.now _ (omega arith) _ _ _ (told proved_of c.in-Ok.is call.ensures.answer) call.ensures.buffer in
     wrote_as _ _ _ _ c.write_proof.ensures _ w.text

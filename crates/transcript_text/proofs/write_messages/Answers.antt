@@ -1,5 +1,5 @@
 -- `write_messages` meets its contract: the lines written and those left are the whole; the loops end where none is left.
-use Prim.Native.Nat.{ℕ, ◌+◌, ◌*◌, ◌≤◌}
+use Prim.Native.Nat.{ℕ, ◌+◌, ◌≤◌}
 use mathlib.Core.Path.{ap, subst}
 use native.Mathlib.Omega.{arith}
 use Rattle.text.proofs.Writing.{wrote_within}
@@ -14,7 +14,7 @@ loop-layer-init c = (ap (λ (n : ℕ). n + 1) c.depth-layer-end.ensures.0, lines
 
 pub loop-round-init : goal.loop-round-init
 loop-round-init c = (
-  ap (λ (k : ℕ). 2 * k + 1) c.exponent.ensures,
+  ap (λ (n : ℕ). n + 1) c.line_round-round-end.ensures,
   λ before b. layer_starts _ _ before c.requires.0 b (omega (arith, c.loop-layer.invariant.0, c.loop-layer-test.true)),
 )
 

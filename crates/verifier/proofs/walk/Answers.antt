@@ -1,6 +1,6 @@
 -- `walk` meets its contract: what is left before a layer, or before a round, is the whole walk; the loops end where nothing is left or a
 -- message is refused.
-use Rattle.std.proofs.Common.{ℕ, ◌+◌, ◌-◌, ◌*◌, ◌≤◌, take, drop, get_or, ap, ◌∙◌, subst, arith}
+use Rattle.std.proofs.Common.{ℕ, ◌+◌, ◌-◌, ◌≤◌, take, drop, get_or, ap, ◌∙◌, subst, arith}
 use Rattle.algebra.specs.Numbers.{words as words_of}
 use Rattle.algebra.specs.Polynomial.{value_at}
 use Rattle.refusal.proofs.Told.{refusal_told, none_told}
@@ -20,7 +20,7 @@ pub loop-round-init : goal.loop-round-init
 loop-round-init c =
     let legal = its_circuit c.args.job.counted in
     let low : c.walk.layer ≤ depth_of c.args.job.circuit.now = omega (arith, c.if-depth-layer.false, c.depth-depth.ensures.0) in
-    (ap (λ (k : ℕ). 2 * k + 1) c.exponent.ensures, layer_starts _ legal c.walk.invariant low)
+    (ap (λ (n : ℕ). n + 1) c.line_round-round-end.ensures, layer_starts _ legal c.walk.invariant low)
 
 pub overflow_add-end : goal.overflow_add-end
 overflow_add-end c =
@@ -47,7 +47,7 @@ loop-round-preserved c =
     let wide = c.message_length in
     let legal = its_circuit c.args.job.counted in
     let m = take (r.at + wide.result - r.at) (drop r.at c.args.messages.now) in
-    let f = prime_modulus _ legal _ _ c.prime.ensures c.of-f.ensures in
+    let f = prime_modulus _ legal _ c.field-f.ensures in
     let passed = none_told c.in_default.is (c.judge-judged.ensures (round_place _ d)) in (
       r.invariant.0,
       round_passes _ d wide.result wide.ensures c.value_at-claim.result passed
