@@ -61,7 +61,8 @@ impl Field {
     fn reduce_once(self, n: u64) -> u32
         ensures { result ≡ n % modulus self }
     {
-        let p = self.modulus();
+        // Not by `modulus`: from the call a comparison is made that needs two words where this one needs one.
+        let p = u64::from(self.largest) + 1;
         let r = if n < p { n } else { n - p };
         if r < p {
             return r as u32;

@@ -8,7 +8,6 @@ use native.Mathlib.Omega.{arith}
 use lib.ListN.{length, length-drop, length-take, take, drop, get_or, drop_of_length-le, get_or-eq_default}
 use lib.Seq.{drop-drop, take-nil, get_or-take, get_or-drop}
 use Rattle.lists.proofs.Parts.{take_most}
-use Rattle.lists.proofs.Buffer.{rest_lent}
 use Rattle.circuit.specs.Limits.{header_words}
 use Rattle.circuit.specs.Circuit.{depth, exponents, exponent_at, gates_of, gates_start, gate_words, gates_before}
 use Rattle.circuit.specs.Sized.{Sized}
@@ -30,23 +29,12 @@ part_cut l a n = go (dec_le a (length l))
         ap (take (min (a + n) (length l) - m)) (drop_of_length-le l {i = m} (omega arith)) ∙ take-nil (min (a + n) (length l) - m)
         ∙ sym (ap (take n) (drop_of_length-le l {i = a} (omega arith)) ∙ take-nil n)
 
--- all words from place a on
-rest_cut : (l : List ℕ) (a : ℕ) → drop (min a (length l)) l ≡ drop a l
-rest_cut l a = go (dec_le a (length l))
-  where
-    go : Dec (a ≤ length l) → drop (min a (length l)) l ≡ drop a l
-    go (yes h) = let start : min a (length l) ≡ a = omega arith in rw start
-    go (no h) = drop_of_length-le l {i = min a (length l)} (omega arith) ∙ sym (drop_of_length-le l {i = a} (omega arith))
-
 module _ (c : List ℕ) where
   pub exponents_part : (start end : ℕ) → start ≡ min header_words (length c) → end ≡ min (gates_start c) (length c)
       → take (end - start) (drop start c) ≡ exponents c
   unfolding exponents
   exponents_part start end es ee =
       ap₂ (λ (a b : ℕ). take (b - a) (drop a c)) es ee ∙ part_cut c header_words (depth c)
-
-  pub gates_rest : (start : ℕ) → start ≡ min (gates_start c) (length c) → take (length c - start) (drop start c) ≡ drop (gates_start c) c
-  gates_rest start es = rest_lent c start (length c) refl ∙ ap (λ (a : ℕ). drop a c) es ∙ rest_cut c (gates_start c)
 
   pub gates_part : (gates : List ℕ) (from count start end : ℕ) → gates ≡ drop (gates_start c) c → start ≡ min (3 * from) (length gates)
       → end ≡ min (start + 3 * count) (length gates) → take (end - start) (drop start gates) ≡ gate_words c from count

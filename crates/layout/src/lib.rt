@@ -155,8 +155,7 @@ pub fn word_count(circuit: &[u32]) -> usize
 pub fn all_gates(circuit: &[u32]) -> &[u32]
     ensures { result.now ≡ drop (gates_start circuit.now) circuit.now }
 {
-    let start = gates_start(circuit).min(circuit.len());
-    &circuit[start..]
+    circuit.get(gates_start(circuit)..).unwrap_or(&[])
 }
 
 // The words of the gates of the layer above one.
@@ -164,7 +163,7 @@ pub fn gates_above(circuit: &[u32], layer: usize) -> &[u32]
     ensures { GatesAbove circuit.now layer result.now }
 {
     if layer < 1 {
-        return &circuit[..0];
+        return &[];
     }
     let above = layer - 1;
     let gates = all_gates(circuit);

@@ -165,7 +165,8 @@ module _ (c : List ℕ) (layer round : ℕ) (past vs buffer : List ℕ) (h : Wri
         honest_round (prime_of c) prime (let p = least in omega arith) k round (gates_above c layer) (point_at c layer past) vs s.points few
         (omega (arith, reached, ne)) t.first.size t.second.size h.sized wired (le_of_eq (count_above ∙ ap (λ (n : ℕ). 2 ^ n) (sym (point_size c layer round past here)))) in
         let back : take round (take k (get_or s.points 0 []) ++ take k (get_or s.points 1 [])) ≡ xs =
-        ap (λ (n : ℕ). take n (take k (get_or s.points 0 []) ++ take k (get_or s.points 1 []))) (sym size) ∙ rows_back k xs (get_or s.points 0 []) (get_or s.points 1 []) small (omega arith) t.first t.second in
+        ap (λ (n : ℕ). take n (take k (get_or s.points 0 []) ++ take k (get_or s.points 1 []))) (sym size)
+        ∙ rows_back k xs (get_or s.points 0 []) (get_or s.points 1 []) small (omega arith) t.first t.second in
         ap (λ (n : ℕ). ms n (gates_in gates) s.point) t.own
         ∙ ap₂ (ms k) (gates_above_lem c layer round past here gates above) t.point ∙ law
         ∙ ap (sum_message N k (gates_above c layer) (point_at c layer past) vs) back

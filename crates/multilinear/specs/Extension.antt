@@ -1,6 +1,7 @@
 -- The multilinear extension of a list of values, over any numbers. The exponent k is the number of coordinates of the point.
 -- Assumes nothing.
 use Rattle.std.specs.Prelude.{ℕ, zero, suc, ◌/◌, ◌%◌, ◌^◌, ◌≡◌, refl, Bool, true, false, List, [], ◌∷◌, map, eqb, length, take, drop, get_or}
+use Rattle.std.specs.Simd.Lanes.{zip2}
 use Rattle.algebra.specs.Numbers.{Numbers, words}
 
 -- the lowest bit
@@ -61,9 +62,7 @@ module _ {C : Type 0} (N : Numbers C) where
 
   -- two tables into one, entry by entry
   unfoldable pub blend : C → List C → List C → List C
-  blend r [] high = []
-  blend r (a ∷ low) [] = []
-  blend r (a ∷ low) (b ∷ high) = between r a b ∷ blend r low high
+  blend r low high = zip2 (between r) low high
 
   -- a table with its first variable fixed at r
   unfoldable pub fold : C → List C → List C

@@ -7,16 +7,25 @@ ghost use Rattle.extension.specs.Limits.{row_length};
 ghost use Rattle.circuit.specs.Limits.{max_exponent};
 ghost use Rattle.sumcheck.specs.Gatewise.{sums_of};
 ghost use Rattle.summand.specs.Gates.{gates_in};
-ghost use Rattle.sums.specs.Wire.{side, Counted};
+ghost use Rattle.sums.specs.Wire.{CutAt, side, Counted};
 ghost use Rattle.sums.specs.Round.{side_at, round_message};
 
 use extension::MAX_COORDINATES;
 use field::Field;
+use layout::GATE_WORDS;
 use tables::MAX_WIDTH;
 use tally::Tally;
 use wires::{Cut, Side, Wire};
 
 mod wires;
+
+// The gates of a layer with their weights, and the field of these.
+#[derive(Clone, Copy)]
+struct Layer<'a> {
+    f: Field,
+    gates: &'a [u32],
+    weights: &'a [u32],
+}
 
 // A gate's share, and what it is multiplied by in the sum over the gates whose bit is 0, in that over those whose bit is 1, and in that of
 // the squares.
@@ -26,6 +35,19 @@ struct Counts {
     zeros: u32,
     ones: u32,
     squares: u32,
+}
+
+impl Cut {
+    // The cut of a point with `fixed` of k coordinates fixed; `next` says whether the next coordinate is this point's.
+    fn at(k: usize, fixed: usize, next: bool) -> Cut
+        requires { (fixed ≤ k) × (k ≤ max_exponent) }
+        ensures { CutAt k fixed next result }
+    {
+        let free = k - fixed;
+        let size = layout::width(free as u32);
+        let half = if next { size / 2 } else { 0 };
+        Cut { free, size, half }
+    }
 }
 
 // The product of the shares of a gate's wires, or a word with its residue: while no coordinate of v is fixed the right share is 1, and the
@@ -40,6 +62,7 @@ fn both_shares(f: Field, left: u32, right: u32) -> u32
 }
 
 // A gate, by its weight and its wires.
+#[tactic(auto, using(crate::proofs::Counting::by_share))]
 fn count_gate(f: Field, kind: u32, weight: u32, l: Wire, r: Wire) -> Counts
     ensures { Counted (numbers f) kind weight l r result }
 {
@@ -47,11 +70,9 @@ fn count_gate(f: Field, kind: u32, weight: u32, l: Wire, r: Wire) -> Counts
     let own = evaluation::gate_value(f, kind, l.own, r.own);
     let other = evaluation::gate_value(f, kind, l.other, r.other);
     let squares = f.sub(own, other);
-    let (zeros, ones) = if l.one || r.one {
-        (Field::ZERO, own)
-    } else {
-        (own, Field::ZERO)
-    };
+    let one = l.one || r.one;
+    let zeros = if one { Field::ZERO } else { own };
+    let ones = if one { own } else { Field::ZERO };
     Counts {
         share,
         zeros,
@@ -62,16 +83,18 @@ fn count_gate(f: Field, kind: u32, weight: u32, l: Wire, r: Wire) -> Counts
 
 // The message from the gates' weights and the two sides, from the last gate to the first. By place: a pass over the gates as
 // triples takes a twentieth more time.
-fn by_gates(f: Field, gates: &[u32], weights: &[u32], left: Side, right: Side) -> [u32; 3]
-    ensures { result ≡ sums_of (numbers f) weights.now (side left.entry) (side right.entry) (gates_in gates.now) }
+fn by_gates(layer: Layer, left: Side, right: Side) -> [u32; 3]
+    ensures { result ≡ sums_of (numbers layer.entry.f) layer.entry.weights.now (side left.entry) (side right.entry)
+        (gates_in layer.entry.gates.now) }
 {
+    let Layer { f, gates, weights } = layer;
     let mut zeros = Tally::empty();
     let mut ones = Tally::empty();
     let mut squares = Tally::empty();
-    let mut a = gates.len() / 3;
+    let mut a = gates.len() / GATE_WORDS;
     while 0 < a {
         a -= 1;
-        let g = 3 * a;
+        let g = GATE_WORDS * a;
         let l = left.wire(gates[g + 1]);
         let r = right.wire(gates[g + 2]);
         let counts = count_gate(f, gates[g], lists::word(weights, a), l, r);
@@ -91,18 +114,10 @@ fn by_gates(f: Field, gates: &[u32], weights: &[u32], left: Side, right: Side) -
 // The message from the left side and the coordinates that are fixed of the right point; `next` says whether the next one is its own. With
 // none fixed the one share is 1 and the table is the values, and no array is made for them. A side is made here and in `by_points`: of a closure
 // that takes one, a proof knows nothing of what it gives.
-fn by_side(
-    f: Field,
-    gates: &[u32],
-    weights: &[u32],
-    left: Side,
-    values: &[u32],
-    v: &[u32],
-    k: usize,
-    next: bool,
-) -> [u32; 3]
+fn by_side(layer: Layer, left: Side, values: &[u32], v: &[u32], k: usize, next: bool) -> [u32; 3]
     requires { (length v.now ≤ k) × (k ≤ max_exponent) }
-    ensures { result ≡ sums_of (numbers f) weights.now (side left.entry) (side_at (numbers f) k values.now v.now next) (gates_in gates.now) }
+    ensures { result ≡ sums_of (numbers layer.entry.f) layer.entry.weights.now (side left.entry)
+        (side_at (numbers layer.entry.f) k values.now v.now next) (gates_in layer.entry.gates.now) }
 {
     let n = MAX_WIDTH.min(values.len());
     let cut = Cut::at(k, v.len(), next);
@@ -112,45 +127,38 @@ fn by_side(
             table: &values[..n],
             cut,
         };
-        return by_gates(f, gates, weights, left, right);
+        return by_gates(layer, left, right);
     }
     let mut shares = [0u32; MAX_WIDTH];
-    tables::weights(f, v, &mut shares);
+    tables::weights(layer.f, v, &mut shares);
     let mut table = [0u32; MAX_WIDTH];
-    tables::folded(f, values, v, &mut table);
+    tables::folded(layer.f, values, v, &mut table);
     let right = Side {
         shares: &shares[..layout::width(v.len() as u32)],
         table: &table[..n >> v.len()],
         cut,
     };
-    by_gates(f, gates, weights, left, right)
+    by_gates(layer, left, right)
 }
 
 // The message from the coordinates that are fixed of the two points, where there are 2^k values.
-fn by_points(
-    f: Field,
-    gates: &[u32],
-    weights: &[u32],
-    values: &[u32],
-    u: &[u32],
-    v: &[u32],
-    k: usize,
-) -> [u32; 3]
+fn by_points(layer: Layer, values: &[u32], u: &[u32], v: &[u32], k: usize) -> [u32; 3]
     requires { (length u.now ≤ k) × (length v.now ≤ k) × (k ≤ max_exponent) }
-    ensures { result ≡ sums_of (numbers f) weights.now (side_at (numbers f) k values.now u.now (ltb (length u.now) k))
-        (side_at (numbers f) k values.now v.now (leb k (length u.now))) (gates_in gates.now) }
+    ensures { result ≡ sums_of (numbers layer.entry.f) layer.entry.weights.now
+        (side_at (numbers layer.entry.f) k values.now u.now (ltb (length u.now) k))
+        (side_at (numbers layer.entry.f) k values.now v.now (leb k (length u.now))) (gates_in layer.entry.gates.now) }
 {
     let n = MAX_WIDTH.min(values.len());
     let mut shares = [0u32; MAX_WIDTH];
-    tables::weights(f, u, &mut shares);
+    tables::weights(layer.f, u, &mut shares);
     let mut table = [0u32; MAX_WIDTH];
-    tables::folded(f, values, u, &mut table);
+    tables::folded(layer.f, values, u, &mut table);
     let left = Side {
         shares: &shares[..layout::width(u.len() as u32)],
         table: &table[..n >> u.len()],
         cut: Cut::at(k, u.len(), u.len() < k),
     };
-    by_side(f, gates, weights, left, values, v, k, k <= u.len())
+    by_side(layer, left, values, v, k, k <= u.len())
 }
 
 // The three coefficients, constant first, of the sum round with `fixed` coordinates fixed, of a layer of 2^k values under the gates. The rows
@@ -173,14 +181,11 @@ pub fn sum_message(
     let width = layout::width(MAX_COORDINATES.min(point.len()) as u32);
     let mut weights = [0u32; MAX_WIDTH];
     tables::weights(f, point, &mut weights);
-    let [u, v] = points;
-    by_points(
+    let layer = Layer {
         f,
         gates,
-        &weights[..width],
-        values,
-        &u[..first],
-        &v[..second],
-        exponent,
-    )
+        weights: &weights[..width],
+    };
+    let [u, v] = points;
+    by_points(layer, values, &u[..first], &v[..second], exponent)
 }

@@ -33,21 +33,6 @@ pub struct Wire {
     pub one: bool,
 }
 
-impl Cut {
-    ghost use Rattle.sums.specs.Wire.{CutAt};
-
-    // The cut of a point with `fixed` of k coordinates fixed; `next` says whether the next coordinate is this point's.
-    pub fn at(k: usize, fixed: usize, next: bool) -> Cut
-        requires { (fixed ≤ k) × (k ≤ max_exponent) }
-        ensures { CutAt k fixed next result }
-    {
-        let free = k - fixed;
-        let size = layout::width(free as u32);
-        let half = if next { size / 2 } else { 0 };
-        Cut { free, size, half }
-    }
-}
-
 impl Side<'_> {
     ghost use Rattle.sums.specs.Wire.{side, Reads};
 

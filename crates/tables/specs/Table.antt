@@ -1,6 +1,7 @@
 -- Lists that stand at the front of a table.
 -- Assumes nothing.
-use Rattle.std.specs.Prelude.{ℕ, ◌≡◌, ◌/◌, List, [], ◌∷◌, ◌++◌, map, length, take, drop}
+use Rattle.std.specs.Prelude.{ℕ, ◌≡◌, ◌/◌, List, ◌++◌, map, length, take, drop}
+use Rattle.std.specs.Simd.Lanes.{zip2}
 use Rattle.lists.specs.Buffer.{over}
 use Rattle.lists.specs.Front.{Front}
 use Rattle.algebra.specs.Numbers.{Numbers}
@@ -18,13 +19,7 @@ pub record Written (entries before after : List ℕ) : Type 0 where
 unfoldable pub spread : {C : Type 0} → Numbers C → C → List C → List C
 spread N z ws = map (λ w. N.mul (N.sub N.𝟙 z) w) ws ++ map (λ w. N.mul z w) ws
 
--- two lists into one, entry by entry
-abbrev pub entrywise : (ℕ → ℕ → ℕ) → List ℕ → List ℕ → List ℕ
-entrywise a [] ys = []
-entrywise a (x ∷ xs) [] = []
-entrywise a (x ∷ xs) (y ∷ ys) = a x y ∷ entrywise a xs ys
-
 -- a list with what `a` and `b` make of each pair of entries, one from either half, in place of these
 abbrev pub paired : (ℕ → ℕ → ℕ) → (ℕ → ℕ → ℕ) → List ℕ → List ℕ
 paired a b t =
-    over (entrywise a (take (length t / 2) t) (drop (length t / 2) t) ++ entrywise b (take (length t / 2) t) (drop (length t / 2) t)) t
+    over (zip2 a (take (length t / 2) t) (drop (length t / 2) t) ++ zip2 b (take (length t / 2) t) (drop (length t / 2) t)) t

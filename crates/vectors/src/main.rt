@@ -15,13 +15,13 @@
 // operation left it. What a program prints stands on the note's line, a transcript on lines of its own.
 #![tactic(auto)]
 
-mod answers;
 mod circuits;
 mod counts;
 mod provers;
 mod verdicts;
 
 use programs::Program;
+use refusal::Cause;
 use std::io::{Result, Write};
 
 // An operation whose answer is a line.
@@ -80,15 +80,47 @@ const MAX_CASES: usize = 65536;
 
 const MAX_BYTES: usize = 262144;
 
-pub const MAX_WORDS: usize = MAX_BYTES / 4;
+const MAX_WORDS: usize = MAX_BYTES / 4;
 
 // Where the note of a case starts.
 const NOTE: usize = 12;
 
+// Prints an answer, or the refusal in its place.
+fn print<W: Write, T, F: FnOnce(&mut W, T) -> Result<()>>(
+    output: &mut W,
+    answer: std::result::Result<T, Cause>,
+    show: F,
+) -> Result<()>
+    requires { F.IsAlwaysCallable show }
+{
+    match answer {
+        Ok(value) => show(output, value),
+        Err(cause) => {
+            cases::print_refused(output, cause)?;
+            Ok(())
+        }
+    }
+}
+
+// Runs an operation on a buffer that holds these words, and prints the buffer behind its answer.
+fn lend<W: Write, F: FnOnce(&mut W, &mut [u32]) -> Result<()>>(
+    output: &mut W,
+    words: &[u32],
+    run: F,
+) -> Result<()>
+    requires { F.IsAlwaysCallable run }
+{
+    let mut buffer = [0u32; MAX_WORDS];
+    let count = lists::put(&mut buffer, words);
+    run(output, &mut buffer[..count])?;
+    cases::print_buffer(output, &buffer[..count])?;
+    Ok(())
+}
+
 fn read<W: Write>(output: &mut W, bytes: &[u8], lists: &[u32]) -> Result<()> {
-    answers::lend(output, cases::list(lists, 1), |output, lent| {
+    lend(output, cases::list(lists, 1), |output, lent| {
         let counts = xdr::read(bytes, lists::word(cases::list(lists, 0), 0), lent);
-        answers::print(output, counts, |output, counts| {
+        print(output, counts, |output, counts| {
             output.write_all(b"counts")?;
             cases::print_numbers(output, &counts)?;
             Ok(())

@@ -1,5 +1,4 @@
 // Cases of check, open and step.
-use crate::answers;
 use session::{Session, Verdict};
 use std::io::{Result, Write};
 
@@ -30,7 +29,7 @@ pub fn check<W: Write>(output: &mut W, lists: &[u32]) -> Result<()> {
         cases::list(lists, 3),
         cases::list(lists, 4),
     );
-    answers::print(output, outcome, |output, ()| output.write_all(b"accepted"))
+    crate::print(output, outcome, |output, ()| output.write_all(b"accepted"))
 }
 
 pub fn open<W: Write>(output: &mut W, lists: &[u32]) -> Result<()> {
@@ -40,7 +39,7 @@ pub fn open<W: Write>(output: &mut W, lists: &[u32]) -> Result<()> {
         lists::word(cases::list(lists, 2), 0),
         cases::list(lists, 3),
     );
-    answers::print(output, opening, |output, session| {
+    crate::print(output, opening, |output, session| {
         output.write_all(b"opened")?;
         print_record(output, session)
     })

@@ -7,7 +7,7 @@ use Rattle.sums.proofs.by_gates.Goals as goal
 
 pub loop-a-init : goal.loop-a-init
 loop-a-init c =
-    let p = modulus c.args.f in
+    let p = modulus c.args.layer.f in
     start _ _ _ _ _ (c.empty-zeros.ensures p) (c.empty-ones.ensures p) (c.empty-squares.ensures p)
 
 pub loop-a-preserved : goal.loop-a-preserved

@@ -18,8 +18,8 @@ slice_bounds-weights-end-2 c =
     args.point.now c.weights.new.table = search (rules, width, c.weights.ensures.whole refl) in
     weights_within _ args.points known
 
-pub slice_bounds-by_points-end : goal.slice_bounds-by_points-end
-slice_bounds-by_points-end c =
+pub slice_bounds-layer-end : goal.slice_bounds-layer-end
+slice_bounds-layer-end c =
     let args = c.args in
     let width = c.width-width.ensures ∙ ap width_of c.min.ensures in
     let known : Clipped (modulus args.f) c.min-exponent.result args.fixed c.min-first.result c.min-second.result c.width-width.result

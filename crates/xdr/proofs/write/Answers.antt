@@ -1,5 +1,6 @@
 -- `write` meets its contract. Invariant: the words done stand over the buffer, the arrays ahead are all in the rest, and together they are all words.
-use Rattle.std.proofs.Common.{rules, arith, ℕ, ◌≡◌, ◌+◌, ◌-◌, ◌≤◌, List, [], ◌++◌, length, drop, take, refl, sym, ap, ◌∙◌, append_assoc, length-append, length-drop, length-take}
+use Rattle.std.proofs.Common.{rules, arith, ℕ, ◌≡◌, ◌+◌, ◌-◌, ◌≤◌, List, [], ◌++◌, length, drop, take}
+use Rattle.std.proofs.Common.{refl, sym, ap, ◌∙◌, append_assoc, length-append, length-drop, length-take}
 use Rattle.std.proofs.Math.Nat.{sub-zero}
 use mathlib.Core.List.{append-nil}
 use Rattle.lists.specs.Buffer.{over}
