@@ -1,7 +1,7 @@
 -- The three sums, built from the last gate: with `a` gates to come, they are the sums over the gates passed.
 -- Assumes nothing.
-use mathlib.Core.Path.{◌≡◌, refl, sym, ap, ap₂, ◌∙◌}
-use mathlib.Core.Bool.{Bool, true, false, cond, ◌||◌}
+use mathlib.Core.Path.{◌≡◌, refl, sym, ap, ◌∙◌}
+use mathlib.Core.Bool.{Bool, true, false, cond}
 use mathlib.Core.List.{List}
 use Prim.Native.Nat.{ℕ, ◌-◌, ◌/◌, ◌%◌, ◌≤◌, ◌<◌}
 use native.Mathlib.Nat.{mul-zero, zero-mod}
@@ -10,7 +10,7 @@ use lib.ListN.{length, get_or}
 use Rattle.algebra.specs.Numbers.{Numbers, words}
 use Rattle.algebra.proofs.Euclid.{mod_mul_right}
 use Rattle.multilinear.specs.Extension.{sum_from}
-use Rattle.circuit.specs.Gate.{Gate, operate}
+use Rattle.circuit.specs.Gate.{Gate}
 use Rattle.sumcheck.specs.Gatewise.{Side, coefficients, three_sums, gate_share, gate_is_one, gate_own, gate_other, sums_of}
 use Rattle.summand.specs.Gates.{gates_in}
 use Rattle.summand.proofs.Wires.{gate_at, sum_on, sum_none, sum_step, sum_all}
@@ -25,18 +25,6 @@ module _ (p : ℕ) where
   -- a product by a word is one by its residue
   pub by_share : (weight both product : ℕ) → both % p ≡ product → N.mul weight both ≡ N.mul weight product
   by_share weight both product e = sym (mod_mul_right weight both p) ∙ ap (N.mul weight) e
-
-  -- A GATE'S FACTORS, by its bit
-  pub counted : (kind weight : ℕ) (l r : Wire) (b : Bool) (share own squares : ℕ) → l.one || r.one ≡ b
-      → share ≡ N.mul weight (N.mul l.share r.share) → own ≡ operate N kind l.own r.own
-      → squares ≡ N.sub (operate N kind l.own r.own) (operate N kind l.other r.other)
-      → Counted N kind weight l r record { share = share; zeros = cond b N.𝟘 own; ones = cond b own N.𝟘; squares = squares }
-  counted kind weight l r b share own squares e w v q = record {
-    share = w;
-    zeros = ap₂ (λ (t : Bool) (x : ℕ). cond t N.𝟘 x) (sym e) v;
-    ones = ap₂ (λ (t : Bool) (x : ℕ). cond t x N.𝟘) (sym e) v;
-    squares = q;
-  }
 
   by_none : (w : ℕ) → N.mul w 0 ≡ 0
   by_none w = ap (λ (n : ℕ). n % p) (mul-zero w) ∙ zero-mod p
