@@ -8,7 +8,7 @@ ghost use Rattle.circuit.specs.Limits.{max_values};
 ghost use Rattle.circuit.specs.Gate.{operate};
 ghost use Rattle.circuit.specs.Circuit.{depth, gates_before};
 ghost use Rattle.circuit.specs.Legal.{lists_cause};
-ghost use Rattle.layout.specs.Gate.{gate_in};
+ghost use Rattle.layout.specs.Gate.{kind_number, gate_in};
 ghost use Rattle.evaluation.specs.Layer.{layer_values, AllValues, Fillable, Placed};
 ghost use Rattle.evaluation.specs.Evaluate.{Evaluates};
 
@@ -19,14 +19,24 @@ use refusal::Cause;
 // The gate and input words of the largest circuit.
 pub const MAX_VALUES: usize = 1 + layout::MAX_DEPTH * (1 << layout::MAX_EXPONENT);
 
-// A gate's value from those of its wires.
+// What a kind does with the values of a gate's wires.
+pub fn kind_value(f: Field, kind: Kind, x: u32, y: u32) -> u32
+    ensures { result ≡ operate (numbers f) (kind_number kind) x y }
+{
+    match kind {
+        Kind::Empty => Field::ZERO,
+        Kind::Add => f.add(x, y),
+        Kind::Multiply => f.mul(x, y),
+    }
+}
+
+// A gate's value from those of its wires. Its word is taken as it stands, which may be no kind.
 pub fn gate_value(f: Field, kind: u32, x: u32, y: u32) -> u32
     ensures { result ≡ operate (numbers f) kind x y }
 {
     match Kind::try_from(kind) {
-        Ok(Kind::Add) => f.add(x, y),
-        Ok(Kind::Multiply) => f.mul(x, y),
-        _ => Field::ZERO,
+        Ok(kind) => kind_value(f, kind, x, y),
+        Err(_) => Field::ZERO,
     }
 }
 
@@ -65,7 +75,7 @@ fn all_values(circuit: &[u32], input: &[u32], place: usize) -> [u32; MAX_VALUES]
     let mut values = place_input(input, at);
     for layer in (0..layout::depth(circuit)).rev() {
         let end = at;
-        at -= layout::width(layout::exponent(circuit, layer));
+        at -= layout::layer_width(circuit, layer);
         fill_layer(f, &gates[at..end], &mut values[at..]);
     }
     values

@@ -26,7 +26,7 @@ pub fn extend(f: Field, values: &[u32], point: &[u32]) -> u32
     ensures { result ≡ halving (numbers f) values.now point.now }
 {
     let [z, rest @ ..] = point else {
-        return values.first().copied().unwrap_or(Field::ZERO);
+        return lists::word(values, 0);
     };
     let (lower, upper) = values.split_at(values.len() / 2);
     let low = extend(f, lower, rest);

@@ -61,7 +61,7 @@ impl Field {
     fn reduce_once(self, n: u64) -> u32
         ensures { result ≡ n % modulus self }
     {
-        // Written out, and not by `modulus`: a proof then takes up to 3 percent less time.
+        // Not by `modulus`: the prover is up to 3 percent faster so.
         let p = u64::from(self.largest) + 1;
         let r = if n < p { n } else { n - p };
         if r < p {

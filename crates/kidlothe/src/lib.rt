@@ -22,6 +22,8 @@ pub const SESSION_WORDS: usize = 4;
 
 const OPEN: u32 = 1;
 
+// Five structs, one for what each operation answers: no two have the same fields.
+
 // What Evaluate answers.
 #[repr(C)]
 #[derive(Clone, Copy, Default)]
@@ -61,7 +63,7 @@ impl From<Result<[u32; 4], Cause>> for Counts {
     fn from(answer: Result<[u32; 4], Cause>) -> Counts {
         match answer {
             Ok(counts) => {
-                // Taken apart in a line of its own: as a pattern inside Ok it has no proof.
+                // Taken apart on a line of its own: from a pattern inside Ok a proof does not learn the words.
                 let [first, second, third, fourth] = counts;
                 Counts {
                     refusal: 0,
@@ -158,7 +160,7 @@ impl From<Verdict> for Step {
     }
 }
 
-// The number of a refusal, 0 for none.
+// The number of a refusal, 0 for none. A function, since neither a result nor a number is a type of this crate.
 fn number(checked: Result<(), Cause>) -> u32
     ensures { result ≡ cause_of checked }
 {
@@ -258,7 +260,7 @@ fn step_words(before: &[u32; SESSION_WORDS], after: Session) -> [u32; SESSION_WO
     }
 }
 
-// Open session: 0 is opened.
+// Open session: 0 is opened. By a match, which shows that the words are written where nothing is refused, and only there.
 pub fn kidlothe_open(
     circuit: &[u32],
     input: &[u32],

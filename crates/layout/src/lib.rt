@@ -45,7 +45,7 @@ impl TryFrom<u32> for Kind {
     }
 }
 
-// A gate, as its words say: whatever they are, its kind may be none.
+// A gate as its three words. The first may be no kind's number.
 #[derive(Clone, Copy, PartialEq, Eq, Debug)]
 pub struct Gate {
     pub kind: u32,
@@ -120,6 +120,13 @@ pub fn width(k: u32) -> usize
     1 << k
 }
 
+// The number of gates of a layer.
+pub fn layer_width(circuit: &[u32], layer: usize) -> usize
+    ensures { result ≡ width_of (exponent_at circuit.now layer) }
+{
+    width(exponent(circuit, layer))
+}
+
 // The gates of the layers before one.
 pub fn gates_before(circuit: &[u32], layer: usize) -> usize
     ensures { GatesBefore circuit.now layer result }
@@ -129,7 +136,7 @@ pub fn gates_before(circuit: &[u32], layer: usize) -> usize
     }
     let written = exponents(circuit);
     let mut count = 0;
-    let mut own = width(exponent(circuit, 0));
+    let mut own = layer_width(circuit, 0);
     for &k in &written[..layer.min(written.len())] {
         count += own;
         own = width(k);
@@ -168,7 +175,7 @@ pub fn gates_above(circuit: &[u32], layer: usize) -> &[u32]
     let above = layer - 1;
     let gates = all_gates(circuit);
     let start = (GATE_WORDS * gates_before(circuit, above)).min(gates.len());
-    let end = (start + GATE_WORDS * width(exponent(circuit, above))).min(gates.len());
+    let end = (start + GATE_WORDS * layer_width(circuit, above)).min(gates.len());
     &gates[start..end]
 }
 

@@ -48,7 +48,7 @@ fn check_layers(circuit: &[u32]) -> Result<(), Cause>
     ensures { cause_of result ≡ layers_cause (exponents circuit.now) (gate_layers circuit.now) }
 {
     let mut gates = layout::gates(layout::all_gates(circuit));
-    let mut count = layout::width(layout::exponent(circuit, 0));
+    let mut count = layout::layer_width(circuit, 0);
     for &k in layout::exponents(circuit) {
         let next = layout::width(k);
         let (layer, rest) = gates.split_at(count);
@@ -88,7 +88,7 @@ fn input_count(circuit: &[u32]) -> usize
     requires { LegalCircuit circuit.now }
     ensures { result ≡ input_count circuit.now }
 {
-    layout::width(layout::exponent(circuit, layout::depth(circuit)))
+    layout::layer_width(circuit, layout::depth(circuit))
 }
 
 // The refusals 1 to 9, with which every operation on a circuit and its input begins.

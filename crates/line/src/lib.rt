@@ -15,13 +15,6 @@ use field::Field;
 // The coefficients of a line between points that fill their rows.
 pub const MAX_COEFFICIENTS: usize = MAX_COORDINATES + 1;
 
-// The one coefficient of a line with no coordinate: the first value.
-fn first(values: &[u32]) -> u32
-    ensures { result ≡ get_or values.now 0 0 }
-{
-    values.first().copied().unwrap_or(Field::ZERO)
-}
-
 // The coefficients of low + (x + d X) × (high - low), one more than high has, over those of low at the front of the row.
 fn along(f: Field, x: u32, d: u32, row: &mut [u32], high: &[u32])
     requires { length high.now < length row.old }
@@ -45,15 +38,16 @@ fn halves(f: Field, values: &[u32], u: &[u32], v: &[u32], row: &mut [u32])
     ensures { row.new ≡ over (line_halving (numbers f) values.now u.now v.now) row.old }
 {
     let [x, us @ ..] = u else {
-        row[0] = first(values);
+        // The one coefficient of a line with no coordinate.
+        row[0] = lists::word(values, 0);
         return;
     };
     let d = f.sub(v[0], *x);
     let vs = &v[1..];
     let (lower, upper) = values.split_at(values.len() / 2);
     if us.is_empty() {
-        row[0] = first(lower);
-        along(f, *x, d, row, &[first(upper)]);
+        row[0] = lists::word(lower, 0);
+        along(f, *x, d, row, &[lists::word(upper, 0)]);
         return;
     }
     halves(f, lower, us, vs, row);

@@ -51,9 +51,6 @@ module _ {A : Type 0} where
     pub length_held : length (take (length l) ws) ≡ count
     length_held = omega (arith, length-take (length l) ws)
 
-    pub start_held : Stored (take (length l) ws) l l 0
-    start_held = start (take (length l) ws) l (omega (arith, length_held))
-
     module _ {b : List A} {i : ℕ} (s : Stored (take (length l) ws) l b i) where
       pub next_held : (d x : A) → i < count → x ≡ get_or ws i d → Stored (take (length l) ws) l (set b i x) (i + 1)
       next_held d x h e = next s d x (omega (arith, length_held)) (e ∙ sym (get_or-take (length l) ws i d (omega arith)))

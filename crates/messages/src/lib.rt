@@ -25,7 +25,8 @@ fn write_sum(round: Round, values: &[u32], buffer: &mut [u32])
     lists::put(buffer, &words);
 }
 
-// Writes a layer's line message to the buffer's front.
+// Writes a layer's line message to the buffer's front. Not one function with `write_sum`: the words come from another crate and are as many as
+// the layer's exponent says.
 fn write_line(round: Round, values: &[u32], buffer: &mut [u32])
     ensures { WritesIf true round.entry.circuit.now (as_place round.entry.place) round.entry.past.now values.now buffer.old buffer.new }
 {
@@ -41,7 +42,7 @@ pub fn write_message(round: Round, values: &[u32], buffer: &mut [u32])
 {
     let Round { circuit, place, .. } = round;
     let from = layout::gates_before(circuit, place.layer);
-    let to = from + layout::width(layout::exponent(circuit, place.layer));
+    let to = from + layout::layer_width(circuit, place.layer);
     let Some(own) = values.get(from..to) else {
         return;
     };

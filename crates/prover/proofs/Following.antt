@@ -22,7 +22,7 @@ use Rattle.circuit.specs.Sized.{LegalCircuit}
 use Rattle.circuit.proofs.Loading.{legal_lists}
 use Rattle.circuit.proofs.Sized.{one_output, deep}
 use Rattle.evaluation.specs.Layer.{AllValues}
-use Rattle.protocol.specs.Rounds.{Place, place, layer_start, AtRound}
+use Rattle.protocol.specs.Rounds.{Place, layer_start, AtRound}
 use Rattle.protocol.specs.Judge.{message_length}
 use Rattle.protocol.specs.Prove.{message_from, honest, place_of, prove_one_cause, wrote, refused, one_of, prove_one_answer, prove_one_buffer}
 use Rattle.protocol.proofs.Points.{start_next}
@@ -52,9 +52,6 @@ module _ (c : List ℕ) (legal : LegalCircuit c) where
         let next : layer_start c (layer + 1) ≡ layer_start c layer + 2 * exponent_at c layer + 1 = start_after layer low inside in
         let more : ¬ (layer ≡ depth c) = λ (e : layer ≡ depth c). omega (arith, ap (λ (i : ℕ). layer_start c (i + 1)) e, all_coins c legal) in
         (omega arith, omega (arith, more), omega arith)
-
-    pub this_layer : round ≤ line → AtRound c (place layer round) n
-    this_layer reached = record { legal = legal; first = low; last = inside; reached = omega arith; counted = counted }
 
 -- a prefix that is shorter than all coins, as the code counts them
 pub prefix_few : (c input prefix : List ℕ) → 0 ≡ lists_cause c input → {n : ℕ} → CoinsOf c n → length prefix < n → length prefix < coin_count c

@@ -69,9 +69,6 @@ module _ (c input cs first : List ℕ) where
     as_long at e low = ap length e ∙ length_over (take at all) first (omega (arith, room, length-take at all))
 
     module _ {layer n at : ℕ} {buffer : List ℕ} (b : BeforeLayer layer n at buffer) where
-      pub layer_size : length buffer ≡ length first
-      layer_size = let rest = b.reached.left.1 in as_long at b.written (omega arith)
-
       pub layer_starts : layer ≤ depth c → BeforeRound layer 0 n at buffer
       layer_starts inside = record { reached = loops.layer_starts c legal b.reached inside; written = b.written }
 

@@ -45,12 +45,12 @@ fn write_all(job: Job, messages: &mut [u32]) -> Proof
     for layer in 1..layout::depth(job.circuit) + 1 {
         for round in 0..standing::line_round(job.circuit, layer) + 1 {
             let place = Place { layer, round };
-            let round = Round {
+            let here = Round {
                 circuit: job.circuit,
                 place,
                 past: &job.coins[..n],
             };
-            messages::write_message(round, &values, &mut messages[at..]);
+            messages::write_message(here, &values, &mut messages[at..]);
             at += place.message_length(job.circuit);
             n += 1;
         }
@@ -77,7 +77,8 @@ pub fn prove(
     Ok(write_all(job, messages))
 }
 
-// The round whose message follows these many coins.
+// The round whose message follows these many coins. The rounds left fall by a layer's until they are fewer: a `for` over the layers would count
+// them down too, and have to answer where none is found.
 fn place_after(circuit: &[u32], coins: usize) -> Place
     requires { LegalCircuit circuit.now × (coins < coin_count circuit.now) }
     ensures { AtRound circuit.now (as_place result) coins }
@@ -94,7 +95,8 @@ fn place_after(circuit: &[u32], coins: usize) -> Place
     }
 }
 
-// Prove, one message: the same refusals with a coin prefix; then the words of the message that follows it.
+// Prove, one message: the same refusals with a coin prefix; then the words of the message that follows it. Not one function with `prove`: the
+// coins that are asked for are others, and so is the buffer's length.
 pub fn prove_one(
     circuit: &[u32],
     input: &[u32],
@@ -117,11 +119,11 @@ pub fn prove_one(
     }
     let mut values = [0u32; MAX_VALUES];
     fill_values(circuit, input, &mut values);
-    let round = Round {
+    let here = Round {
         circuit,
         place,
         past: prefix,
     };
-    messages::write_message(round, &values, buffer);
+    messages::write_message(here, &values, buffer);
     Ok(words)
 }

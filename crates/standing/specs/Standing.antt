@@ -63,7 +63,7 @@ pub record Stands (c : List ℕ) (layer : ℕ) (past : List ℕ) (s : Stand) : T
   pub first : Row (take (exponent_at c layer) (fixed c layer past)) (get_or s.points 0 [])
   pub second : Row (drop (exponent_at c layer) (fixed c layer past)) (get_or s.points 1 [])
 
--- what `at_round` says of any list and place, and of a round
+-- what `Round::stand` says of any list and place, and of a round
 pub record StandsAt (c : List ℕ) (r : walk.Place) (past : List ℕ) (s : Stand) : Type 0 where
   pub within : s.own ≤ row_length
   pub stands : AtRound c r (length past) → Stands c r.layer past s

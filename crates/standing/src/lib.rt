@@ -181,7 +181,7 @@ pub fn standing_point(circuit: &[u32], layer: usize, past: &[u32]) -> Point
 pub struct Stand {
     pub point: Point,
     pub own: usize,
-    // An array of both, since two points go by value.
+    // Both rows in one array, as `combined`, `sum_message` and `line_message` take them.
     pub points: [[u32; MAX_COORDINATES]; 2],
 }
 
@@ -194,7 +194,8 @@ pub struct Round<'a> {
 }
 
 impl Round<'_> {
-    // What stands at it; nothing where there is no such round. Whatever the list, `own` is no more than a row's length.
+    // What stands at it; nothing at layer 0, or where there are fewer coins than rounds before it. Whatever the list, `own` is no more than a row's
+    // length.
     pub fn stand(self) -> Stand
         ensures { StandsAt self.entry.circuit.now (as_place self.entry.place) self.entry.past.now result }
     {

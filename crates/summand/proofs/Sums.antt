@@ -95,7 +95,7 @@ module _ (p : ℕ) (gs : List Gate) (point u v : List ℕ) where
       whole : ℕ → ℕ
       whole kind = wiring (words p) kind gs point u v
 
--- FROM THE SUMS, kind by kind: what a kind gives is a residue, and nothing is added behind the last
+-- FROM THE SUMS, kind by kind: the two kinds' parts are the sum over all kinds
 module _ (p x y : ℕ) where
   abbrev pub given : ℕ → ℕ → ℕ
   given sum kind = (words p).mul sum (operate (words p) kind x y)

@@ -31,7 +31,7 @@ pub fn line_point(f: Field, points: [[u32; MAX_COORDINATES]; 2], t: u32) -> [u32
 {
     let [u, v] = points;
     let mut line = [0u32; MAX_COORDINATES];
-    // The words of both rows by place, as the line's is written: a zip beside the index would be no plainer.
+    // By place: the word that is written and both rows' words have the same.
     for (i, &x) in u.iter().enumerate() {
         line[i] = f.add(x, scaled(f, t, f.sub(v[i], x)));
     }
@@ -82,7 +82,7 @@ fn by_kind(f: Field, sum: u32, kind: Kind, x: u32, y: u32) -> u32
     if sum == 0 {
         return Field::ZERO;
     }
-    f.mul(sum, evaluation::gate_value(f, kind as u32, x, y))
+    f.mul(sum, evaluation::kind_value(f, kind, x, y))
 }
 
 // The sums, each times what its kind does with x and y.

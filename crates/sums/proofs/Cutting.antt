@@ -12,9 +12,6 @@ module _ (c : Cut) (i : ℕ) where
   parts : i / 2 ^ c.free * c.size + i % 2 ^ c.free ≡ i
   parts = ap (λ (n : ℕ). i / 2 ^ c.free * n + i % 2 ^ c.free) c.power ∙ split i c.free
 
-  pub high_within : i / 2 ^ c.free * c.size ≤ i
-  high_within = omega (arith, parts)
-
   pub low_is : i - i / 2 ^ c.free * c.size ≡ i % c.size
   low_is = omega (arith, parts) ∙ ap (λ (n : ℕ). i % n) (sym c.power)
 

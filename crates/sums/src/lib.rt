@@ -19,7 +19,7 @@ use wires::{Cut, Side, Wire};
 
 mod wires;
 
-// The gates of a layer with their weights, and the field of these.
+// The gates of a layer, their weights, and the field of the weights.
 #[derive(Clone, Copy)]
 struct Layer<'a> {
     f: Field,
@@ -61,7 +61,7 @@ fn both_shares(f: Field, left: u32, right: u32) -> u32
     f.mul(left, right)
 }
 
-// A gate, by its weight and its wires.
+// A gate, by its weight and its wires. Its kind is the word that stands in the list, which may be none.
 #[tactic(auto, using(crate::proofs::Counting::by_share))]
 fn count_gate(f: Field, kind: u32, weight: u32, l: Wire, r: Wire) -> Counts
     ensures { Counted (numbers f) kind weight l r result }
@@ -81,8 +81,8 @@ fn count_gate(f: Field, kind: u32, weight: u32, l: Wire, r: Wire) -> Counts
     }
 }
 
-// The message from the gates' weights and the two sides, from the last gate to the first. By place: a pass over the gates as
-// triples takes a twentieth more time.
+// The message from the gates' weights and the two sides, from the last gate to the first. By place: a pass over the gates as triples takes a
+// twentieth more instructions.
 fn by_gates(layer: Layer, left: Side, right: Side) -> [u32; 3]
     ensures { result ≡ sums_of (numbers layer.entry.f) layer.entry.weights.now (side left.entry) (side right.entry)
         (gates_in layer.entry.gates.now) }
@@ -112,8 +112,8 @@ fn by_gates(layer: Layer, left: Side, right: Side) -> [u32; 3]
 }
 
 // The message from the left side and the coordinates that are fixed of the right point; `next` says whether the next one is its own. With
-// none fixed the one share is 1 and the table is the values, and no array is made for them. A side is made here and in `by_points`: of a closure
-// that takes one, a proof knows nothing of what it gives.
+// none fixed the one share is 1 and the table is the values, and no array is made for them. A side borrows arrays of
+// the function that makes it, so this one and `by_points` each make theirs.
 fn by_side(layer: Layer, left: Side, values: &[u32], v: &[u32], k: usize, next: bool) -> [u32; 3]
     requires { (length v.now ≤ k) × (k ≤ max_exponent) }
     ensures { result ≡ sums_of (numbers layer.entry.f) layer.entry.weights.now (side left.entry)

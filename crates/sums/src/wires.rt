@@ -24,7 +24,7 @@ pub struct Side<'a> {
 }
 
 // What a side says of a wire: the weight of its first bits, the value at the others, the value with the first of these turned, and whether
-// that bit is 1.
+// that bit is 1. The bit is no flag: nothing beside it holds only where it is set.
 #[derive(Clone, Copy)]
 pub struct Wire {
     pub share: u32,

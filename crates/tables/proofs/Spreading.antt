@@ -68,8 +68,3 @@ module _ {C : Type 0} (N : Numbers C) where
           size = length_back l part ws (n * 2) e (omega arith) (omega arith) ∙ size;
           holds = ap (λ (m : ℕ). take m (part ++ drop (n * 2) l)) (sym all) ∙ front_back l part ws (n * 2) e ∙ made;
         }
-
-  pub all_weighed : (passed l point : List C) (n : ℕ) → Weighed passed l n → passed ≡ point → take (length (weights N point)) l ≡ weights N point
-  all_weighed passed l point n h e =
-      ap (λ (m : ℕ). take m l) (length_weights N point ∙ ap (λ (p : List C). 2 ^ length p) (sym e) ∙ sym h.count)
-      ∙ h.holds ∙ ap (weights N) e

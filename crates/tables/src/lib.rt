@@ -71,6 +71,7 @@ fn fold(f: Field, table: &mut [u32], r: u32)
     );
 }
 
+// Not one function with `weights`: the table grows there and shrinks here, from the other end of the point.
 // Writes the values with their first variables fixed at the point to a table's front. Of more than MAX_WIDTH values the first MAX_WIDTH count.
 pub fn folded(f: Field, values: &[u32], point: &[u32], table: &mut [u32])
     ensures { Written (folded (numbers f) (take row_length point.now) (take table_width values.now)) table.old table.new }

@@ -72,7 +72,7 @@ fn steps_accepted(
 }
 
 // Counts the lists on which the messages that each list's number gives are accepted, and prints both counts.
-fn count<W: Write, M: Fn(u32) -> [u32; 8]>(
+fn count<W: Write, M: Fn(&[u32], &[u32], u32) -> [u32; 8]>(
     output: &mut W,
     lists: &[u32],
     messages_of: M,
@@ -86,7 +86,7 @@ fn count<W: Write, M: Fn(u32) -> [u32; 8]>(
     let mut by_session = 0;
     for number in 0..ALL_LISTS {
         let coins = coins_of(number);
-        let messages = messages_of(number);
+        let messages = messages_of(circuit, input, number);
         let accepted = verifier::check(circuit, input, value, &coins, &messages).is_ok();
         by_check += u32::from(accepted);
         by_session += u32::from(steps_accepted(circuit, input, value, &coins, messages));
@@ -99,28 +99,24 @@ fn count<W: Write, M: Fn(u32) -> [u32; 8]>(
 
 // Of the prover's messages, all at once.
 pub fn count_whole<W: Write>(output: &mut W, lists: &[u32]) -> Result<()> {
-    let circuit = cases::list(lists, 0);
-    let input = cases::list(lists, 1);
     count(
         output,
         lists,
-        |number| whole(circuit, input, coins_of(number)),
+        |circuit, input, number| whole(circuit, input, coins_of(number)),
     )
 }
 
 // Of the prover's messages, one after the other.
 pub fn count_single<W: Write>(output: &mut W, lists: &[u32]) -> Result<()> {
-    let circuit = cases::list(lists, 0);
-    let input = cases::list(lists, 1);
     count(
         output,
         lists,
-        |number| single(circuit, input, coins_of(number)),
+        |circuit, input, number| single(circuit, input, coins_of(number)),
     )
 }
 
 // Of a rule's messages.
 pub fn count_rule<W: Write>(output: &mut W, lists: &[u32]) -> Result<()> {
     let rule = cases::list(lists, 3);
-    count(output, lists, |number| ruled(rule, number))
+    count(output, lists, |_, _, number| ruled(rule, number))
 }

@@ -33,6 +33,7 @@ fn walk(job: Job, first: u32, messages: &[u32]) -> Result<(), Cause>
     let mut layer = 1;
     let mut n = standing::coins_before(job.circuit, 1);
     let mut at = 0;
+    // A loop that the label leaves: the first message that earns a refusal ends both loops.
     'walk: loop {
         if depth < layer {
             break 'walk finish(job, claim);
@@ -42,12 +43,12 @@ fn walk(job: Job, first: u32, messages: &[u32]) -> Result<(), Cause>
             let place = Place { layer, round };
             let end = at + place.message_length(job.circuit);
             let message = &messages[at..end];
-            let round = Round {
+            let here = Round {
                 circuit: job.circuit,
                 place,
                 past: &job.coins[..n],
             };
-            let judged = judgement::judge(round, claim, message);
+            let judged = judgement::judge(here, claim, message);
             if let Err(cause) = judged {
                 break 'walk Err(cause);
             }

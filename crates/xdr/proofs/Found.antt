@@ -170,10 +170,6 @@ abbrev pub after : List (List ℕ) → Option (List (List ℕ)) → Option (List
 after done none = none
 after done (some ls) = some (done ++ ls)
 
-pub after_nil : (found : Option (List (List ℕ))) → after [] found ≡ found
-after_nil none = refl
-after_nil (some ls) = refl
-
 after_prepend : (done : List (List ℕ)) (ws : List ℕ) (found : Option (List (List ℕ)))
     → after done (prepend ws found) ≡ after (done ++ (ws ∷ [])) found
 after_prepend done ws none = refl

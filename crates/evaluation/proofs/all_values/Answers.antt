@@ -14,13 +14,13 @@ use Rattle.evaluation.proofs.Evaluating.{Filled, from_layer, input_fits, filled_
 use Rattle.evaluation.proofs.all_values.Goals as goal
 
 -- a turn: its layer is one of the circuit's, the array is filled from the next layer on, and it is as wide as was read
-turn : (c input values : List ℕ) (layer at k count : ℕ) → lists_cause c input ≡ 0 → 0 < layer → Filled c input values layer at
-    → k ≡ exponent_at c (layer - 1) → count ≡ width_of k
+turn : (c input values : List ℕ) (layer at count : ℕ) → lists_cause c input ≡ 0 → 0 < layer → Filled c input values layer at
+    → count ≡ width_of (exponent_at c (layer - 1))
     → (layer - 1 < depth_of c) × Filled c input values (suc (layer - 1)) at × (count ≡ 2 ^ exponent_at c (layer - 1))
-turn c input values layer at k count e more F ek ec =
+turn c input values layer at count e more F ec =
     let low : layer - 1 < depth_of c = omega (arith, F.inside) in
     let next : layer ≡ suc (layer - 1) = omega arith in
-    (low, from_layer next F, ec ∙ ap width_of ek ∙ exponent_width c (layer - 1) (layer_of c (legal_lists c input e).circuit (layer - 1) (omega arith)))
+    (low, from_layer next F, ec ∙ exponent_width c (layer - 1) (layer_of c (legal_lists c input e).circuit (layer - 1) (omega arith)))
 
 pub place_input-values-requires : goal.place_input-values-requires
 place_input-values-requires c = input_fits _ _ c.requires.0 _ c.requires.1
@@ -30,49 +30,49 @@ loop-layer-init c = from_layer (sym c.depth-layer.ensures.0) (filled_start _ _ c
 
 pub overflow_sub-at : goal.overflow_sub-at
 overflow_sub-at c =
-    let t = turn c.args.circuit.now c.args.input.now _ _ _ _ _ c.requires.0 c.loop-layer-test.true c.loop-layer.invariant c.exponent.ensures c.width-at.ensures in
+    let t = turn c.args.circuit.now c.args.input.now _ _ _ _ c.requires.0 c.loop-layer-test.true c.loop-layer.invariant c.layer_width-at.ensures in
     (turn_sizes _ _ c.requires.0 _ _ _ _ t.0 t.1 t.2).0
 
 pub offset_bounds-gates-at : goal.offset_bounds-gates-at
 offset_bounds-gates-at c =
-    let t = turn c.args.circuit.now c.args.input.now _ _ _ _ _ c.requires.0 c.loop-layer-test.true c.loop-layer.invariant c.exponent.ensures c.width-at.ensures in
+    let t = turn c.args.circuit.now c.args.input.now _ _ _ _ c.requires.0 c.loop-layer-test.true c.loop-layer.invariant c.layer_width-at.ensures in
     let s = turn_sizes _ _ c.requires.0 _ _ _ _ t.0 t.1 t.2 in
     omega arith
 
 pub slice_bounds-fill_layer-end : goal.slice_bounds-fill_layer-end
 slice_bounds-fill_layer-end c =
-    let t = turn c.args.circuit.now c.args.input.now _ _ _ _ _ c.requires.0 c.loop-layer-test.true c.loop-layer.invariant c.exponent.ensures c.width-at.ensures in
+    let t = turn c.args.circuit.now c.args.input.now _ _ _ _ c.requires.0 c.loop-layer-test.true c.loop-layer.invariant c.layer_width-at.ensures in
     let all = c.gates-gates.ensures ∙ ap (λ (ws : List ℕ). gates_of (length ws / 3) ws) c.all_gates.ensures in
     let r = turn_room _ _ c.requires.0 _ _ _ _ t.0 t.1 t.2 c.gates-gates.result.now all in
     omega arith
 
 pub offset_bounds-values-at : goal.offset_bounds-values-at
 offset_bounds-values-at c =
-    let t = turn c.args.circuit.now c.args.input.now _ _ _ _ _ c.requires.0 c.loop-layer-test.true c.loop-layer.invariant c.exponent.ensures c.width-at.ensures in
+    let t = turn c.args.circuit.now c.args.input.now _ _ _ _ c.requires.0 c.loop-layer-test.true c.loop-layer.invariant c.layer_width-at.ensures in
     let s = turn_sizes _ _ c.requires.0 _ _ _ _ t.0 t.1 t.2 in
     omega arith
 
 pub slice_bounds-fill_layer-count-in-loop-layer : goal.slice_bounds-fill_layer-count-in-loop-layer
 slice_bounds-fill_layer-count-in-loop-layer c =
-    let t = turn c.args.circuit.now c.args.input.now _ _ _ _ _ c.requires.0 c.loop-layer-test.true c.loop-layer.invariant c.exponent.ensures c.width-at.ensures in
+    let t = turn c.args.circuit.now c.args.input.now _ _ _ _ c.requires.0 c.loop-layer-test.true c.loop-layer.invariant c.layer_width-at.ensures in
     let s = turn_sizes _ _ c.requires.0 _ _ _ _ t.0 t.1 t.2 in
     omega arith
 
 pub slice_bounds-values-start : goal.slice_bounds-values-start
 slice_bounds-values-start c =
-    let t = turn c.args.circuit.now c.args.input.now _ _ _ _ _ c.requires.0 c.loop-layer-test.true c.loop-layer.invariant c.exponent.ensures c.width-at.ensures in
+    let t = turn c.args.circuit.now c.args.input.now _ _ _ _ c.requires.0 c.loop-layer-test.true c.loop-layer.invariant c.layer_width-at.ensures in
     let s = turn_sizes _ _ c.requires.0 _ _ _ _ t.0 t.1 t.2 in
     omega arith
 
 pub fill_layer-requires : goal.fill_layer-requires
 fill_layer-requires c =
-    let t = turn c.args.circuit.now c.args.input.now _ _ _ _ _ c.requires.0 c.loop-layer-test.true c.loop-layer.invariant c.exponent.ensures c.width-at.ensures in
+    let t = turn c.args.circuit.now c.args.input.now _ _ _ _ c.requires.0 c.loop-layer-test.true c.loop-layer.invariant c.layer_width-at.ensures in
     let all = c.gates-gates.ensures ∙ ap (λ (ws : List ℕ). gates_of (length ws / 3) ws) c.all_gates.ensures in
     rw (turn_gates _ _ c.requires.0 _ _ _ _ t.0 t.1 t.2 c.gates-gates.result.now all) (turn_fillable _ _ c.requires.0 _ _ _ _ t.0 t.1 t.2)
 
 pub loop-layer-preserved : goal.loop-layer-preserved
 loop-layer-preserved c =
-    let t = turn c.args.circuit.now c.args.input.now _ _ _ _ _ c.requires.0 c.loop-layer-test.true c.loop-layer.invariant c.exponent.ensures c.width-at.ensures in
+    let t = turn c.args.circuit.now c.args.input.now _ _ _ _ c.requires.0 c.loop-layer-test.true c.loop-layer.invariant c.layer_width-at.ensures in
     let all = c.gates-gates.ensures ∙ ap (λ (ws : List ℕ). gates_of (length ws / 3) ws) c.all_gates.ensures in
     let l = c.args.circuit.now in
     let legal = (legal_lists l c.args.input.now c.requires.0).circuit in

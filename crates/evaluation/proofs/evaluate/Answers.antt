@@ -28,13 +28,6 @@ returns-in_err-check_lists c =
     let r = c.in_err-check_lists in
     rw (p.1, p.2) (left_lists _ _ _ r.field-0.0 r.ensures)
 
-pub overflow_add-total : goal.overflow_add-total
-overflow_add-total c =
-    let legal = sym c.in_ok-check_lists.ensures in
-    let at = place c.args.circuit.now c.args.input.now _ _ legal c.depth.ensures.0 c.gates_before-place.ensures in
-    let few = input_fits _ _ legal _ at in
-    omega arith
-
 pub returns-then-buffer-total : goal.returns-then-buffer-total
 returns-then-buffer-total c =
     let legal = sym c.in_ok-check_lists.ensures in

@@ -1,10 +1,6 @@
 -- `weight_of` meets its contract. The loop keeps `Product`: the weight at the coordinates passed, from the last on, and the bits not yet used.
-use Rattle.std.proofs.Common.{rules, Bor, ℕ, reverse, ap, ◌∙◌}
-use Rattle.std.proofs.lemmas.List.{reverse-reverse}
-use Rattle.std.proofs.lemmas.Iterator.Adapters.{YieldsList-from_rev_slice}
-use Rattle.std.proofs.lemmas.Iterator.Consumers.{YieldsList-end}
+use Rattle.std.proofs.Common.{rules, Bor, ℕ, ◌∙◌}
 use Rattle.field.specs.Modulus.{numbers}
-use Rattle.multilinear.specs.Extension.{weight}
 use Rattle.extension.proofs.Product.{start, factor_one, factor_zero, step, one_passed}
 use Rattle.extension.proofs.weight_of.Goals as goal
 use Rattle.extension.proofs.weight_of.Goals.{then-rest-eq1, else-rest-eq1}
@@ -23,10 +19,3 @@ loop-z-preserved c =
       | then-rest-eq1 w ↦ factor_one N rest factor _ w.if-rest-eq1.true (w.factor-is ∙ search rules)
       | else-rest-eq1 w ↦ factor_zero N rest factor _ w.if-rest-eq1.false (w.factor-is ∙ search rules)
     ]))
-
-pub returns : goal.returns
-returns c =
-    let point = c.args.point.now in
-    let all = YieldsList-end (YieldsList-from_rev_slice point cc) c.loop-z.yielded _ c.loop-z.yielded_by _ _ c.in-None.is c.next.ensures.steps in
-    c.loop-z.invariant.weighs ∙ ap (λ l. weight (numbers c.args.f) c.args.index (reverse l)) all.0
-    ∙ ap (weight (numbers c.args.f) c.args.index) (reverse-reverse point)

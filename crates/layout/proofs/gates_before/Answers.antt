@@ -17,7 +17,7 @@ before : (es : List ℕ) (i n layer : ℕ) → n ≡ min layer (length es) → i
 before es i n layer e h = omega (arith, length-take-le n es (omega arith))
 
 pub loop-k-init : goal.loop-k-init
-loop-k-init c = (search rules, c.width-own.ensures ∙ ap width_of c.exponent.ensures, λ h. count_none c.args.circuit.now)
+loop-k-init c = (search rules, c.layer_width-own.ensures, λ h. count_none c.args.circuit.now)
 
 pub overflow_add-count : goal.overflow_add-count
 overflow_add-count c =
@@ -34,7 +34,7 @@ loop-k-preserved c =
     let w : c.loop-k.own ≤ max_width = omega (arith, c.loop-k.invariant.1) in
     let low = before _ _ _ _ c.min.ensures c.loop-k-test.true in (
       omega arith,
-      c.width-own-in-loop-k.ensures ∙ ap width_of (get_or-take _ c.exponents-written.result.now i 0 low ∙ exponent_next l _ i c.exponents-written.ensures),
+      c.width-own.ensures ∙ ap width_of (get_or-take _ c.exponents-written.result.now i 0 low ∙ exponent_next l _ i c.exponents-written.ensures),
       λ h.
           let inside : i < depth l = omega (arith, h.inside, c.min.ensures) in
           count_turn l h.headed i c.loop-k.count (exponent_at l i) c.loop-k.own inside (c.loop-k.invariant.2 h) refl c.loop-k.invariant.1,

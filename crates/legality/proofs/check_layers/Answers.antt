@@ -22,7 +22,7 @@ turn c es i h e more wide =
 
 pub loop-k-init : goal.loop-k-init
 loop-k-init c =
-    checks_start c.args.circuit.now c.requires _ _ (c.width-count.ensures ∙ ap width_of c.exponent.ensures)
+    checks_start c.args.circuit.now c.requires _ _ (c.layer_width-count.ensures)
     (c.gates-gates.ensures ∙ ap (λ (ws : List ℕ). gates_of (length ws / 3) ws) c.all_gates.ensures)
 
 pub split_at-requires : goal.split_at-requires

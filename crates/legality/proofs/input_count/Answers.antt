@@ -10,5 +10,5 @@ use Rattle.legality.proofs.input_count.Goals as goal
 pub returns : goal.returns
 returns c =
     let l = c.args.circuit.now in
-    c.width.ensures ∙ ap width_of (c.exponent.ensures ∙ ap (exponent_at l) c.depth.ensures.0)
+    c.layer_width.ensures ∙ ap (λ (i : ℕ). width_of (exponent_at l i)) c.depth.ensures.0
     ∙ exponent_width l (depth_of l) (layer_of l c.requires (depth_of l) (le_refl (depth_of l))) ∙ ap (λ (k : ℕ). 2 ^ k) (last_exponent l c.requires)

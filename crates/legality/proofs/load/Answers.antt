@@ -67,15 +67,6 @@ returns-then-circuit-word_count c =
     let x = headed l _ _ r c.depth-depth.ensures.0 c.exponents-exponents.ensures c.if-exponents-depth.false (sym c.all_below.ensures ∙ c.if-not-all_below.false) in
     sym (load_count l r x (λ e. c.if-circuit-word_count.true (e ∙ sym (c.word_count.ensures x))))
 
-pub check_layers-requires : goal.check_layers-requires
-check_layers-requires c =
-    let l = c.args.circuit.now in
-    let two = sym c.has_header.ensures ∙ c.if-not-has_header.false in
-    let listed = sym (ap is_listed c.prime.ensures) ∙ sym c.is_listed.ensures ∙ c.if-not-is_listed.false in
-    let r = ranged l _ two listed c.depth-depth.ensures.0 c.if-depth-lt1.false c.if-depth-gt-MAX_DEPTH.false in
-    let x = headed l _ _ r c.depth-depth.ensures.0 c.exponents-exponents.ensures c.if-exponents-depth.false (sym c.all_below.ensures ∙ c.if-not-all_below.false) in
-    record { headed = x; counted = c.if-circuit-word_count.false ∙ c.word_count.ensures x }
-
 pub returns : goal.returns
 returns c =
     let l = c.args.circuit.now in

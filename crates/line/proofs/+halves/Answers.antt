@@ -8,16 +8,16 @@ use Rattle.line.proofs.+halves.Goals as goal
 pub returns-in_default : goal.returns-in_default
 returns-in_default t c =
     let room = c.requires.2 in
-    ap (set c.args.row.now 0) c.first.ensures
+    ap (set c.args.row.now 0) c.word.ensures
     ∙ from_first (numbers c.args.f) c.args.values.now c.args.u.now c.args.v.now c.args.row.now (omega arith) (omega arith)
 
 pub returns-then-is_empty : goal.returns-then-is_empty
 returns-then-is_empty t c =
     let args = c.args in
     let room = c.requires.2 in
-    (rw (c.first-then-is_empty.ensures, c.sub-d.ensures, c.split_at.ensures.front) at c.along.ensures)
+    (rw (c.word-then-is_empty.ensures, c.sub-d.ensures, c.split_at.ensures.front) at c.along.ensures)
     ∙ from_values (numbers args.f) args.values.now args.u.now args.v.now c.requires.0 (search rules) (search rules)
-    args.row.now _ (omega arith) (rw c.split_at.ensures.back at (ap (λ (n : ℕ). n ∷ []) c.first-then-is_empty-2.ensures))
+    args.row.now _ (omega arith) (rw c.split_at.ensures.back at (ap (λ (n : ℕ). n ∷ []) c.word-then-is_empty-2.ensures))
 
 pub returns : goal.returns
 returns t c =

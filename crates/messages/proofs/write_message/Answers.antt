@@ -5,7 +5,6 @@ use mathlib.Core.Logic.{inl, inr}
 use mathlib.Core.Path.{sym, ap, ◌∙◌}
 use native.Mathlib.Omega.{arith}
 use Rattle.lists.specs.Buffer.{over}
-use Rattle.circuit.specs.Circuit.{width_of}
 use Rattle.protocol.specs.Rounds.{place}
 use Rattle.protocol.specs.Prove.{message_from}
 use Rattle.messages.proofs.Parts.{part_small, part_inside, part_values, part_writable}
@@ -13,11 +12,11 @@ use borrow.Author.Rules.{rules}
 use Rattle.messages.proofs.write_message.Goals as goal
 
 pub overflow_add-to : goal.overflow_add-to
-overflow_add-to c = let few = part_small _ _ _ _ _ c.gates_before-from.ensures c.width.ensures in search rules
+overflow_add-to c = let few = part_small _ _ _ _ _ c.gates_before-from.ensures c.layer_width.ensures in search rules
 
 pub returns-in_default : goal.returns-in_default
 returns-in_default c h =
-    let wide = c.width.ensures ∙ ap width_of c.exponent.ensures in
+    let wide = c.layer_width.ensures in
     let inside = part_inside _ _ _ _ _ _ h _ _ c.gates_before-from.ensures wide in
     elim c.in_default.ensures.lookup.0 [
       | inl backwards ↦ absurd (omega (arith, backwards))
@@ -29,7 +28,7 @@ returns-then-is_line c h =
     let a = c.args.round in
     let circuit = a.circuit.now in
     let before = c.gates_before-from.ensures in
-    let wide = c.width.ensures ∙ ap width_of c.exponent.ensures in
+    let wide = c.layer_width.ensures in
     let own = c.in-Some.own.now in
     let read = c.in-Some.ensures.lookup.0.2 in
     c.write_line.ensures (sym c.is_line.ensures ∙ search rules) (part_writable _ _ _ _ _ _ h _ _ before wide own read)
@@ -41,7 +40,7 @@ returns-else-is_line c h =
     let a = c.args.round in
     let circuit = a.circuit.now in
     let before = c.gates_before-from.ensures in
-    let wide = c.width.ensures ∙ ap width_of c.exponent.ensures in
+    let wide = c.layer_width.ensures in
     let own = c.in-Some.own.now in
     let read = c.in-Some.ensures.lookup.0.2 in
     c.write_sum.ensures (sym c.is_line.ensures ∙ search rules) (part_writable _ _ _ _ _ _ h _ _ before wide own read)

@@ -1,10 +1,7 @@
 -- `prove_one` meets its contract: refusal by refusal, then the message of the round that follows the prefix.
-use Prim.Native.Nat.{ℕ}
 use mathlib.Core.Path.{sym, ◌∙◌}
 use native.Mathlib.Omega.{arith}
-use lib.ListN.{length-replicate}
 use Rattle.refusal.proofs.Told.{refused_is}
-use Rattle.circuit.specs.Limits.{max_values}
 use Rattle.circuit.proofs.Legal.{below_told}
 use Rattle.circuit.proofs.Loading.{legal_lists}
 use Rattle.prover.proofs.Values.{writable}
@@ -36,9 +33,6 @@ returns-then-buffer-words c =
     let residues = below_told c.args.prefix.now c.prime.ensures c.all_below.ensures ∙ c.if-not-all_below.false in
     let due = due_of _ _ _ c.args.buffer.now c.in_ok-check_lists.ensures few residues c.place_after-place.ensures in
     one_short _ _ _ _ due (omega (arith, c.message_length-words.ensures, c.if-buffer-words.true))
-
-pub fill_values-requires : goal.fill_values-requires
-fill_values-requires c = (sym c.in_ok-check_lists.ensures, length-replicate {A = ℕ} max_values 0)
 
 pub returns : goal.returns
 returns c =

@@ -4,21 +4,17 @@ use Prim.Native.Nat.{ℕ, ◌+◌, ◌-◌, ◌≤◌}
 use mathlib.Core.Path.{ap, ◌∙◌, subst}
 use mathlib.Core.List.{List}
 use native.Mathlib.Omega.{arith}
-use lib.ListN.{length, take, drop, length-replicate}
+use lib.ListN.{length, take, drop}
 use Rattle.lists.specs.Buffer.{over}
 use Rattle.protocol.specs.Rounds.{place}
 use Rattle.protocol.specs.Prove.{message_from}
 use Rattle.protocol.proofs.Coins.{its_circuit}
-use Rattle.circuit.specs.Limits.{max_values}
 use Rattle.standing.proofs.Loops.{first_layer}
 use Rattle.prover.proofs.Values.{layer_values_lem, writable, output_of}
-use Rattle.prover.proofs.Transcripts.{all_start, all_end, layer_size, layer_starts, layer_ends}
+use Rattle.prover.proofs.Transcripts.{all_start, all_end, layer_starts, layer_ends}
 use Rattle.prover.proofs.Transcripts.{is_due, round_place, enough, lent_room, next_round}
 use borrow.Author.Rules.{rules}
 use Rattle.prover.proofs.write_all.Goals as goal
-
-pub fill_values-requires : goal.fill_values-requires
-fill_values-requires c = (c.args.job.counted.lists, length-replicate {A = ℕ} max_values 0)
 
 pub loop-layer-init : goal.loop-layer-init
 loop-layer-init c = (
@@ -58,28 +54,12 @@ loop-round-preserved c =
           (c.write_message.ensures ready ∙ ap (λ (vs : List ℕ). over (said vs) part) same)),
     )
 
-pub overflow_step-layer : goal.overflow_step-layer
-overflow_step-layer c =
-    let some = c.loop-layer-test.true in
-    let end = c.loop-round.invariant.0 in
-    let flat = (its_circuit c.args.job.counted).sized.headed.shallow in
-    omega arith
-
-pub loop-layer-smaller : goal.loop-layer-smaller
-loop-layer-smaller c = let some = c.loop-layer-test.true in search rules
-
 pub loop-layer-preserved : goal.loop-layer-preserved
 loop-layer-preserved c = (
   c.loop-round.invariant.0,
   layer_ends _ _ _ _ c.args.job.counted c.requires (c.loop-round.invariant.2 _ c.requires c.loop-layer.invariant.1)
       (subst (λ (i : ℕ). i ≤ c.loop-round.round) c.loop-round.invariant.1 c.loop-round-test.false),
 )
-
-pub bounds-values-0 : goal.bounds-values-0
-bounds-values-0 c = let size = (c.fill_values.ensures).size in search rules
-
-pub shape_of-messages : goal.shape_of-messages
-shape_of-messages c = let size = layer_size _ _ _ _ c.args.job.counted c.requires c.loop-layer.invariant.1 in search rules
 
 pub returns : goal.returns
 returns c =

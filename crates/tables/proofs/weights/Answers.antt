@@ -1,14 +1,10 @@
 -- `weights` meets its contract. The loop keeps `Weighed`: at the front stand the weights at the coordinates passed, from the last on.
-use Rattle.std.proofs.Common.{arith, Bor, ℕ, take, reverse, sym, ap, ◌∙◌}
+use Rattle.std.proofs.Common.{arith, Bor, ℕ, take, sym, ◌∙◌}
 use lib.Seq.{take-suc-set, length-take-le}
 use lib.ListN.{length-set}
-use Rattle.std.proofs.lemmas.List.{reverse-reverse}
 use Rattle.std.proofs.lemmas.Iterator.Adapters.{YieldsList-from_rev_slice}
-use Rattle.std.proofs.lemmas.Iterator.Consumers.{YieldsList-end}
-use Rattle.lists.proofs.Parts.{take_most}
-use Rattle.extension.specs.Limits.{row_length}
 use Rattle.extension.proofs.Product.{one_passed}
-use Rattle.tables.proofs.Spreading.{few_passed, none_weighed, room, weigh_next, all_weighed}
+use Rattle.tables.proofs.Spreading.{few_passed, none_weighed, room, weigh_next}
 use Rattle.tables.proofs.weights.Goals as goal
 
 pub loop-z-init : goal.loop-z-init
@@ -48,13 +44,3 @@ loop-z-preserved c =
     c.loop-z.yielded _ c.loop-z.yielded_by _ _ _ c.in-Some.is c.next.ensures.steps in
     rw (one_passed (λ (z : Bor ℕ). z.now) c.loop-z.yielded c.in-Some.field-0)
     (weigh_next _ c.loop-z.invariant few _ _ c.spread.ensures)
-
-pub returns : goal.returns
-returns c =
-    let point = c.args.point.now in
-    let all = YieldsList-end (YieldsList-from_rev_slice (take c.min-count.result point) cc) c.loop-z.yielded _ c.loop-z.yielded_by _ _ c.in-None.is c.next.ensures.steps in
-    let passed = ap reverse all.0 ∙ reverse-reverse (take c.min-count.result point) ∙ ap (λ (n : ℕ). take n point) c.min-count.ensures ∙ take_most row_length point in
-    record {
-      whole = λ e. record { size = c.loop-z.invariant.size; holds = all_weighed _ _ _ _ _ c.loop-z.invariant passed };
-      other = λ e. absurd (e c.if-table-ne-MAX_WIDTH.false);
-    }

@@ -1,12 +1,9 @@
 -- `put_words` meets its contract: after i turns the first i words stand over the buffer.
 use Rattle.std.proofs.Common.{arith, ◌∙◌, length-take}
-use Rattle.lists.proofs.Storing.{start_held, next_held, end_held}
+use Rattle.lists.proofs.Storing.{next_held, end_held}
 use Rattle.xdr.specs.Read.{words}
 use Rattle.xdr.proofs.Words.{length_words, word_of}
 use Rattle.xdr.proofs.put_words.Goals as goal
-
-pub loop-i-init : goal.loop-i-init
-loop-i-init c = start_held _ _
 
 pub loop-i-preserved : goal.loop-i-preserved
 loop-i-preserved c =

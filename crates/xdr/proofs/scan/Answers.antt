@@ -1,14 +1,13 @@
 -- `scan` meets its contract. Invariant: the arrays done, put before those found in the rest, are all arrays, and their counts stand over zeros.
 use Rattle.std.proofs.Common.{arith, ℕ, ◌+◌, ◌-◌, List, drop, Bool, true, false, cond, ◌≡◌, refl, sym, ap, ◌∙◌, [], ◌∷◌, ◌++◌, length-append, length-take}
 use Rattle.std.proofs.lemmas.Grind.{common_steps}
-use Rattle.std.proofs.Math.Nat.{sub-zero}
 use Rattle.std.proofs.Math.Option.{some}
 use Rattle.std.specs.Prelude.{Option, Some, None, Err, ok_or}
 use mathlib.Core.List.{append-nil}
 use mathlib.Core.Logic.{inl, inr}
 use Rattle.refusal.specs.declared.Cause.{Cause}
 use Rattle.xdr.specs.Read.{first_word, whole, arrays, counts_of}
-use Rattle.xdr.proofs.Found.{zeros, after, after_nil, after_front, front, length_front, whole_fits, refused_found}
+use Rattle.xdr.proofs.Found.{zeros, after, after_front, front, length_front, whole_fits, refused_found}
 use Rattle.xdr.proofs.Found.{called_none, called_some, arrays_none, arrays_end, arrays_left_over, counts_found, counts_more}
 use Rattle.xdr.proofs.scan.Goals as goal
 
@@ -24,9 +23,6 @@ unfit false w front e cause f h = (refl, cc)
 pub returns-then-number-lt1 : goal.returns-then-number-lt1
 returns-then-number-lt1 c =
     sym (refused_found (called_none c.args.number c.args.bytes.now (elim c.then-number-lt1.either [ inl w ↦ inl w | inr w ↦ inr w.1 ])))
-
-pub loop-count-init : goal.loop-count-init
-loop-count-init c = ([], refl, refl, rw sub-zero (sym (after_nil _)))
 
 pub returns-in_err-count : goal.returns-in_err-count
 returns-in_err-count c =

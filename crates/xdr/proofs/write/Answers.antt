@@ -1,7 +1,6 @@
 -- `write` meets its contract. Invariant: the words done stand over the buffer, the arrays ahead are all in the rest, and together they are all words.
-use Rattle.std.proofs.Common.{rules, arith, ℕ, ◌≡◌, ◌+◌, ◌-◌, ◌≤◌, List, [], ◌++◌, length, drop, take}
+use Rattle.std.proofs.Common.{arith, ℕ, ◌≡◌, ◌+◌, ◌-◌, ◌≤◌, List, ◌++◌, length, drop, take}
 use Rattle.std.proofs.Common.{refl, sym, ap, ◌∙◌, append_assoc, length-append, length-drop, length-take}
-use Rattle.std.proofs.Math.Nat.{sub-zero}
 use mathlib.Core.List.{append-nil}
 use Rattle.lists.specs.Buffer.{over}
 use Rattle.lists.proofs.Buffer.{over_more, over_whole}
@@ -9,20 +8,12 @@ use Rattle.xdr.proofs.Words.{length_words}
 use Rattle.xdr.proofs.Found.{front, step, words_none}
 use Rattle.xdr.proofs.write.Goals as goal
 
-pub loop-init : goal.loop-init
-loop-init c = ([], refl, refl, rw sub-zero (omega arith), rw sub-zero c.requires.0, rw sub-zero)
-
 pub split_at-requires : goal.split_at-requires
 split_at-requires c =
     let here = c.loop in
     let left = c.args.number - here.counter in
     let s = step left (c.args.number - (here.counter + 1)) c.first_word.result here.rest.now _ (omega arith) here.invariant.4 c.first_word.ensures refl in
     omega arith
-
-pub slice_bounds-put_words-start-in-loop : goal.slice_bounds-put_words-start-in-loop
-slice_bounds-put_words-start-in-loop c =
-    let size = ap length c.loop.invariant.2 in
-    let few : c.loop.to ≤ length c.loop.buffer = omega arith in search rules
 
 pub loop-preserved : goal.loop-preserved
 loop-preserved c =

@@ -4,24 +4,9 @@ use Prim.Native.Nat.{ℕ, ◌+◌, ◌%◌}
 use mathlib.Core.Path.{◌≡◌, ap, ap₂, ◌∙◌}
 use lib.Dec.{ltb}
 use lib.ListN.{get_or}
-use Rattle.circuit.proofs.Sized.{width_le}
-use Rattle.sums.proofs.Cutting.{high_within, low_is, high_is, turned_within, turned_past}
-use borrow.Author.Rules.{rules}
+use Rattle.sums.proofs.Cutting.{low_is, high_is, turned_within, turned_past}
 use Rattle.sums.proofs.wires.Side.wire.Goals as goal
 use Rattle.sums.proofs.wires.Side.wire.Goals.{then-up-cut, else-up-cut}
-
-pub overflow_mul-low : goal.overflow_mul-low
-overflow_mul-low c =
-    let within = high_within c.args.self.cut c.args.number in
-    search rules
-
-pub overflow_sub-low : goal.overflow_sub-low
-overflow_sub-low c = high_within c.args.self.cut c.args.number
-
-pub overflow_add-up : goal.overflow_add-up
-overflow_add-up c =
-    let wide = width_le c.args.self.cut.free c.args.self.cut.within in
-    search rules
 
 pub returns : goal.returns
 returns c =
