@@ -70,7 +70,7 @@ pub fn print_numbers<W: Write>(output: &mut W, numbers: &[u32]) -> Result<usize>
     Ok(numbers.len())
 }
 
-// Prints a refusal, and answers its number.
+// Prints a refusal, and answers its number. No `Display` of a cause: the word is the test program's.
 pub fn print_refused<W: Write>(output: &mut W, cause: Cause) -> Result<u32>
     ensures { IfOk result (λ n. n ≡ number_of cause) }
 {

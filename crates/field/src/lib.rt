@@ -49,7 +49,7 @@ impl Field {
         u64::from(self.largest) + 1
     }
 
-    // The remainder of a number of up to 64 bits.
+    // The remainder of a number of up to 64 bits. It fits in a word by proof, so by `as`, and not by `try_from` with an error that never comes.
     pub fn remainder(self, n: u64) -> u32
         ensures { result ≡ n % modulus self }
     {

@@ -91,7 +91,8 @@ fn input_count(circuit: &[u32]) -> usize
     layout::layer_width(circuit, layout::depth(circuit))
 }
 
-// The refusals 1 to 9, with which every operation on a circuit and its input begins.
+// The refusals 1 to 9, with which every operation on a circuit and its input begins. A length and words below p are asked of coins and messages
+// too, with other causes each.
 pub fn check_lists(circuit: &[u32], input: &[u32]) -> Result<(), Cause>
     ensures { cause_of result ≡ lists_cause circuit.now input.now }
 {

@@ -32,7 +32,8 @@ fn arrays_of(program: Program) -> u32
     }
 }
 
-// Writes what a program prints for these lists. Those that it does not call for are not read.
+// Writes what a program prints for these lists. Those that it does not call for are not read. By cases, as the definitions go; a `main` for each
+// program names its case.
 fn write_lists(
     program: Program,
     circuit: &[u32],

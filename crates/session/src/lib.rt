@@ -157,6 +157,7 @@ fn step_open(job: Job, session: Session, message: &[u32]) -> Stepped
         place,
         past: &job.coins[..n],
     };
+    // As in the whole check, but that a refusal goes into the record.
     let judged = judgement::judge(round, session.claim, message);
     if let Err(cause) = judged {
         return refusal(cause, session.ended());

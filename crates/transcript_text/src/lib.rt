@@ -21,7 +21,7 @@ const MAX_MESSAGE_WORDS: usize = MAX_DEPTH * (7 * MAX_EXPONENT as usize + 1);
 // The bytes of its printed transcript: the output's line, a word and an end for each round's, and eleven for each message word.
 pub const MAX_TEXT: usize = 17 + 5 * MAX_COINS + 11 * MAX_MESSAGE_WORDS;
 
-// Writes the line of a round.
+// Writes the line of a round. In two calls, since the words are byte strings of two lengths.
 fn write_message(circuit: &[u32], place: Place, message: &[u32], text: &mut [u8]) -> usize
     ensures { Wrote (line_text (word_of circuit.now (as_place place)) message.now)
         text.old text.new result }
@@ -62,7 +62,8 @@ fn write_proof(circuit: &[u32], output: u32, messages: &[u32], text: &mut [u8]) 
     at + write_messages(circuit, messages, &mut text[at..])
 }
 
-// Writes what is printed for these lists.
+// Writes what is printed for these lists. That a refusal is written so in three programs' texts is one arm of a match: to share it would take a
+// closure for the other arm.
 pub fn write_lists(circuit: &[u32], input: &[u32], coins: &[u32], text: &mut [u8]) -> usize
     ensures { Wrote (lists_text circuit.now input.now coins.now)
         text.old text.new result }

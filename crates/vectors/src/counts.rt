@@ -84,6 +84,7 @@ fn count<W: Write, M: Fn(&[u32], &[u32], u32) -> [u32; 8]>(
     let value = lists::word(cases::list(lists, 2), 0);
     let mut by_check = 0;
     let mut by_session = 0;
+    // By number, from which a list is made.
     for number in 0..ALL_LISTS {
         let coins = coins_of(number);
         let messages = messages_of(circuit, input, number);

@@ -128,7 +128,7 @@ fn read<W: Write>(output: &mut W, bytes: &[u8], lists: &[u32]) -> Result<()> {
     })
 }
 
-// What an operation answers.
+// What an operation answers. By a match: a function cannot be handed out, and closures would hide the list of operations.
 fn answer<W: Write>(
     output: &mut W,
     operation: Operation,
@@ -193,6 +193,7 @@ fn main(rt: HostRuntime) -> Result<()> {
     let mut input = rt.stdin();
     let mut output = rt.stdout();
     let mut bytes = [0u8; MAX_BYTES];
+    // A bound, so that it ends whatever the input is.
     for _ in 0..MAX_CASES {
         let count = cases::next(&mut input, &mut bytes)?;
         if count == 0 {

@@ -11,7 +11,7 @@ fn print_record<W: Write>(output: &mut W, session: Session) -> Result<()> {
     )
 }
 
-// The record whose figures are in a list.
+// The record whose figures are in a list. A function, since neither the record nor a list is a type of this program.
 fn record(figures: &[u32]) -> Session {
     Session {
         layer: lists::word(figures, 0),

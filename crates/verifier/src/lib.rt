@@ -32,6 +32,7 @@ fn walk(job: Job, first: u32, messages: &[u32]) -> Result<(), Cause>
     let mut claim = first;
     let mut layer = 1;
     let mut n = standing::coins_before(job.circuit, 1);
+    // The message words so far: a number, as in the prover, which writes them over one buffer.
     let mut at = 0;
     // A loop that the label leaves: the first message that earns a refusal ends both loops.
     'walk: loop {
