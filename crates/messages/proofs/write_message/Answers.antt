@@ -1,13 +1,8 @@
 -- `write_message` meets its contract: the part of all values that it lends on is the layer's.
-use Prim.Native.Nat.{ℕ}
-use mathlib.Core.List.{List}
 use mathlib.Core.Logic.{inl, inr}
-use mathlib.Core.Path.{sym, ap, ◌∙◌}
+use mathlib.Core.Path.{sym, ◌∙◌}
 use native.Mathlib.Omega.{arith}
-use Rattle.lists.specs.Buffer.{over}
-use Rattle.protocol.specs.Rounds.{place}
-use Rattle.protocol.specs.Prove.{message_from}
-use Rattle.messages.proofs.Parts.{part_small, part_inside, part_values, part_writable}
+use Rattle.messages.proofs.Parts.{part_small, part_inside, part_written}
 use borrow.Author.Rules.{rules}
 use Rattle.messages.proofs.write_message.Goals as goal
 
@@ -25,24 +20,10 @@ returns-in_default c h =
 
 pub returns-then-is_line : goal.returns-then-is_line
 returns-then-is_line c h =
-    let a = c.args.round in
-    let circuit = a.circuit.now in
-    let before = c.gates_before-from.ensures in
-    let wide = c.layer_width.ensures in
-    let own = c.in-Some.own.now in
-    let read = c.in-Some.ensures.lookup.0.2 in
-    c.write_line.ensures (sym c.is_line.ensures ∙ search rules) (part_writable _ _ _ _ _ _ h _ _ before wide own read)
-    ∙ ap (λ (vs : List ℕ). over (message_from circuit vs (place a.place.layer a.place.round) a.past.now) c.args.buffer.now)
-    (part_values _ _ _ _ _ _ h _ _ before wide own read)
+    part_written _ _ _ _ _ _ h _ _ c.gates_before-from.ensures c.layer_width.ensures _ c.in-Some.ensures.lookup.0.2
+    (c.write_line.ensures (sym c.is_line.ensures ∙ search rules))
 
 pub returns-else-is_line : goal.returns-else-is_line
 returns-else-is_line c h =
-    let a = c.args.round in
-    let circuit = a.circuit.now in
-    let before = c.gates_before-from.ensures in
-    let wide = c.layer_width.ensures in
-    let own = c.in-Some.own.now in
-    let read = c.in-Some.ensures.lookup.0.2 in
-    c.write_sum.ensures (sym c.is_line.ensures ∙ search rules) (part_writable _ _ _ _ _ _ h _ _ before wide own read)
-    ∙ ap (λ (vs : List ℕ). over (message_from circuit vs (place a.place.layer a.place.round) a.past.now) c.args.buffer.now)
-    (part_values _ _ _ _ _ _ h _ _ before wide own read)
+    part_written _ _ _ _ _ _ h _ _ c.gates_before-from.ensures c.layer_width.ensures _ c.in-Some.ensures.lookup.0.2
+    (c.write_sum.ensures (sym c.is_line.ensures ∙ search rules))
