@@ -3,8 +3,9 @@
 #![tactic(auto)]
 
 ghost use Rattle.std.specs.Prelude.{◌≡◌};
-ghost use Rattle.field.specs.Modulus.{numbers};
-ghost use Rattle.multilinear.specs.Extension.{weight, between, halving};
+ghost use Rattle.field.specs.Modulus.{modulus, numbers};
+ghost use Rattle.multilinear.specs.Extension.{weight, between};
+ghost use Rattle.extension.specs.Extended.{Extends};
 
 use field::Field;
 
@@ -21,9 +22,8 @@ fn between(f: Field, z: u32, low: u32, high: u32) -> u32
 
 // The extension of the values at the point, from those of their halves; the number of coordinates that remain falls. With no coordinate
 // it is the first value.
-#[tactic(auto, using(multilinear::proofs::Halving::halving_none))]
 pub fn extend(f: Field, values: &[u32], point: &[u32]) -> u32
-    ensures { result ≡ halving (numbers f) values.now point.now }
+    ensures { Extends (modulus f) values.now point.now result }
 {
     let [z, rest @ ..] = point else {
         return lists::word(values, 0);

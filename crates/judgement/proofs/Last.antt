@@ -1,15 +1,16 @@
 -- The last comparison, as the check computes it.
 -- Assumes nothing.
-use Prim.Native.Nat.{ℕ, suc, ◌+◌, ◌-◌, ◌^◌}
+use Prim.Native.Nat.{ℕ, suc, ◌+◌, ◌-◌, ◌^◌, ◌<◌}
 use mathlib.Core.Path.{◌≡◌, sym, ap, ap₂, ◌∙◌, subst}
 use mathlib.Core.List.{List}
 use native.Mathlib.Numerals.{add-one}
 use native.Mathlib.Omega.{arith}
 use lib.Dec.{eqb}
 use lib.ListN.{length}
+use Rattle.lists.specs.Each.{All}
 use Rattle.algebra.specs.Numbers.{words}
-use Rattle.multilinear.specs.Extension.{extension, halving}
-use Rattle.multilinear.proofs.Words.{halving_on_words}
+use Rattle.multilinear.specs.Extension.{extension}
+use Rattle.extension.specs.Extended.{Extends}
 use Rattle.circuit.specs.Circuit.{prime_of, depth, exponents, exponent_at, input_exponent}
 use Rattle.circuit.specs.Sized.{LegalCircuit}
 use Rattle.circuit.proofs.Layers.{all_below_lem, prime_modulus}
@@ -17,7 +18,6 @@ use Rattle.circuit.proofs.Loading.{legal_lists}
 use Rattle.circuit.proofs.Sized.{deep}
 use Rattle.protocol.specs.Judge.{point_at, input_agrees}
 use Rattle.protocol.specs.Check.{Counted}
-use Rattle.protocol.proofs.Truth.{positive}
 use Rattle.standing.specs.Standing.{AtLayer, PointStands}
 use Rattle.standing.proofs.Points.{point_length}
 use Rattle.standing.proofs.Coins.{so_far, all_coins}
@@ -31,18 +31,19 @@ module _ (c input cs : List ℕ) (h : Counted c input cs) where
 
   -- from what the check computes
   pub agrees : {layers largest x : ℕ} (claim : ℕ) {point : List ℕ} → layers ≡ depth c → PointStands c (layers + 1) cs point
-      → largest ≡ prime_of c - 1 → x ≡ halving (words (largest + 1)) input point → eqb x claim ≡ input_agrees c input cs claim
+      → largest ≡ prime_of c - 1 → Extends (largest + 1) input point x → eqb x claim ≡ input_agrees c input cs claim
   unfolding input_agrees input_exponent
   agrees {layers} {largest} {x} claim {point} deepest stands residue e =
       let lists = legal_lists c input h.lists in
-      let z : List ℕ = point_at c (depth c + 1) cs in
-      let there : point ≡ z = subst (λ (i : ℕ). PointStands c (i + 1) cs point) deepest stands behind_last in
-      let size : length z ≡ exponent_at c (depth c) =
-      let e : depth c + 1 - 1 ≡ depth c = omega arith in point_length c cs (depth c + 1) behind_last ∙ ap (exponent_at c) e in
-      let wide : length input ≡ 2 ^ length z = lists.sized ∙ ap (λ (n : ℕ). 2 ^ exponent_at c n) (deep c legal) ∙ ap (λ (n : ℕ). 2 ^ n) (sym size) in
+      let p : ℕ = prime_of c in
+      let f : largest + 1 ≡ p = prime_modulus c legal largest residue in
+      let there : point ≡ point_at c (depth c + 1) cs = subst (λ (i : ℕ). PointStands c (i + 1) cs point) deepest stands behind_last in
+      let here : depth c + 1 - 1 ≡ depth c = omega arith in
+      let size : length point ≡ exponent_at c (depth c) = ap length there ∙ point_length c cs (depth c + 1) behind_last ∙ ap (exponent_at c) here in
+      let wide : length input ≡ 2 ^ length point = lists.sized ∙ ap (λ (n : ℕ). 2 ^ exponent_at c n) (deep c legal) ∙ ap (λ (n : ℕ). 2 ^ n) (sym size) in
+      let below : All (λ v. v < largest + 1) input =
+      subst (λ (m : ℕ). All (λ v. v < m) input) (sym f) (all_below_lem p input lists.residues) in
       let last : depth c + 1 ≡ suc (length (exponents c)) = add-one (depth c) ∙ ap suc (sym (deep c legal)) in
-      let f = prime_modulus c legal largest residue in
       ap (λ (v : ℕ). eqb v claim)
-      (e ∙ ap₂ (λ (m : ℕ) (l : List ℕ). halving (words m) input l) f there
-      ∙ halving_on_words (prime_of c) (positive c input h.lists) input z wide (all_below_lem (prime_of c) input lists.residues)
-      ∙ ap (λ (n : ℕ). extension (words (prime_of c)) input (point_at c n cs)) last)
+      (e.sum wide below ∙ ap₂ (λ (m : ℕ) (l : List ℕ). extension (words m) input l) f there
+      ∙ ap (λ (n : ℕ). extension (words p) input (point_at c n cs)) last)
