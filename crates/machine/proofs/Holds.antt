@@ -90,7 +90,7 @@ module _ {S : Type 0} (M : Machine S) (Store : S → Type 0) (read : S → Recor
 
   same_end : SameEnd M
   same_end c input y cs o ms wm n =
-      ap end_of (answers_are M Store read sim c input y cs o (cut (descent c) (rounds c) ms) (cut_all (descent c) Word (rounds c) ms wm))
+      ap end_of (answers_are M Store read sim c input y cs o.lists o.output (cut (descent c) (rounds c) ms) (cut_all (descent c) Word (rounds c) ms wm))
       ∙ theorems.same_end c input y cs ms (opened_cause M Store read sim c input y cs o) n
       ∙ sym (ap (λ (a : Answer). end_of (a ∷ [])) (sim.check c input y cs ms o.lists o.output wm) ∙ number_end (check_answer c input y cs ms))
 
@@ -98,15 +98,15 @@ module _ {S : Type 0} (M : Machine S) (Store : S → Type 0) (read : S → Recor
   no_early_coin c input y before common coin coin' rest rest' n more o o' ms wm =
       let cs : List ℕ = before ++ (common ++ coin ∷ rest) in
       let cs' : List ℕ = before ++ (common ++ coin' ∷ rest') in
-      ap (up_to (length common) coin') (answers_are M Store read sim c input y cs o ms wm)
-      ∙ theorems.own_coin_alone c input y ms before common coin coin' rest rest' n more
+      ap (up_to (length common) coin') (answers_are M Store read sim c input y cs o.lists o.output ms wm)
+      ∙ theorems.no_early_coin c input y ms before common coin coin' rest rest' n more
       (opened_cause M Store read sim c input y cs o) (opened_cause M Store read sim c input y cs' o')
-      ∙ sym (ap (take (suc (length common))) (answers_are M Store read sim c input y cs' o' ms wm))
+      ∙ sym (ap (take (suc (length common))) (answers_are M Store read sim c input y cs' o'.lists o'.output ms wm))
 
   compared_first : ComparedFirst M
   compared_first c input y cs o ms wm j t going =
       theorems.compared_first c input y cs ms j t (opened_cause M Store read sim c input y cs o)
-      (ap (λ (l : List Answer). get_or l j accepted) (sym (answers_are M Store read sim c input y cs o ms wm)) ∙ going)
+      (ap (λ (l : List Answer). get_or l j accepted) (sym (answers_are M Store read sim c input y cs o.lists o.output ms wm)) ∙ going)
 
   -- what Prove writes is the honest transcript
   proved_accepted : ProvedAccepted M

@@ -3,22 +3,22 @@
 -- Assumes nothing.
 use Prim.Native.Nat.{ℕ, zero, suc}
 use mathlib.Core.Path.{◌≡◌, refl, ap, ap₂, ◌∙◌}
-use mathlib.Core.Bool.{true, ◌&&◌, false≢true}
+use mathlib.Core.Bool.{true, false≢true}
 use mathlib.Core.List.{List, [], ◌∷◌, ◌++◌}
 use Rattle.lists.specs.Each.{All}
 use Rattle.lists.proofs.Each.{all_append, all_flatten}
 use Rattle.walk.specs.Game.{passes}
 use Rattle.walk.specs.Rule.{Rule, said}
-use Rattle.walk.specs.Session.{Answer, Record, is_accepted, any_accepted, end_of}
+use Rattle.walk.specs.Session.{Record, is_accepted, any_accepted, end_of}
 use Rattle.walk.proofs.Play.{said_all}
 use Rattle.protocol.specs.Start.{first_point, later_coins}
 use Rattle.protocol.specs.Rounds.{Place, rounds}
 use Rattle.protocol.specs.Check.{check_answer}
-use Rattle.protocol.specs.Session.{OpenAnswer, opens, refuses, open_cause, opened_at, opened_by, open_answer, step_answer, steps, session_on}
+use Rattle.protocol.specs.Session.{OpenAnswer, opens, refuses, open_cause, open_answer, step_answer, steps, steps_from, session_on}
 use Rattle.protocol.specs.Prove.{OneMessage, message_in, messages_on, transcript, prove_answer, prove_buffer, prove_one_answer, prove_one_buffer}
 use Rattle.protocol.specs.Prove as definition
 use Rattle.protocol.specs.Accept as accept
-use Rattle.protocol.proofs.Opening.{free_opens, opened_free}
+use Rattle.protocol.proofs.Opening.{opened_free}
 use Rattle.machine.specs.Words.{Word, Words, WordRule, WordLists}
 use Rattle.machine.specs.Machine.{Begun, begun, declined, is_begun, Machine, stepping, continued, answers, whole_accepts, session_accepts, asking}
 use Rattle.machine.specs.Exported.{number_answer}
@@ -63,20 +63,6 @@ unfolding end_of
 number_end zero = refl
 number_end (suc n) = refl
 
--- the steps from what an opening answers: none where it refuses, and then none accepts
-abbrev steps_from : List ℕ → List ℕ → List ℕ → OpenAnswer → List (List ℕ) → List Answer
-steps_from c input cs (opens s) ms = steps c input cs s ms
-steps_from c input cs (refuses cause) ms = []
-
-from_opening : (c input : List ℕ) (y : ℕ) (cs : List ℕ) (ms : List (List ℕ))
-    → any_accepted (steps_from c input cs (open_answer c input y cs) ms) ≡ (passes (open_cause c input y cs) && any_accepted (session_on c input y cs ms))
-unfolding open_answer any_accepted
-from_opening c input y cs ms = go (open_cause c input y cs)
-  where
-    go : (n : ℕ) → any_accepted (steps_from c input cs (opened_by n (opened_at c y cs)) ms) ≡ (passes n && any_accepted (session_on c input y cs ms))
-    go zero = refl
-    go (suc n) = refl
-
 module _ {S : Type 0} (M : Machine S) (Store : S → Type 0) (read : S → Record Place) (sim : Simulates M Store read) where
   -- THE CALLS OF A SESSION
   stepping_is : (c input cs : List ℕ) → WordLists c input cs → (s : S) → Store s → (ms : List (List ℕ)) → All Words ms
@@ -88,11 +74,11 @@ module _ {S : Type 0} (M : Machine S) (Store : S → Type 0) (read : S → Recor
       (stepping_is c input cs w (M.step c input cs s m).1 (sim.step_stored c input cs s m w st h.0) ms h.1
       ∙ ap (λ (r : Record Place). steps c input cs r ms) (sim.step_record c input cs s m w st h.0))
 
-  answers_from : (c input : List ℕ) (y : ℕ) (cs : List ℕ) → WordLists c input cs → Word y → (ms : List (List ℕ)) → All Words ms
-      → answers M c input y cs ms ≡ steps_from c input cs (open_answer c input y cs) ms
-  answers_from c input y cs w wy ms h = go (M.begin c input y cs) (sim.begin c input y cs w wy) (sim.begin_stored c input y cs w wy)
+  pub answers_are : (c input : List ℕ) (y : ℕ) (cs : List ℕ) → WordLists c input cs → Word y → (ms : List (List ℕ)) → All Words ms
+      → answers M c input y cs ms ≡ session_on c input y cs ms
+  answers_are c input y cs w wy ms h = go (M.begin c input y cs) (sim.begin c input y cs w wy) (sim.begin_stored c input y cs w wy)
     where
-      go : (b : Begun S) → begun_as read b ≡ open_answer c input y cs → Stored Store b → continued M c input cs b ms ≡ steps_from c input cs (open_answer c input y cs) ms
+      go : (b : Begun S) → begun_as read b ≡ open_answer c input y cs → Stored Store b → continued M c input cs b ms ≡ session_on c input y cs ms
       go (begun s) e st = stepping_is c input cs w s st ms h ∙ ap (λ (a : OpenAnswer). steps_from c input cs a ms) e
       go (declined cause) e st = ap (λ (a : OpenAnswer). steps_from c input cs a ms) e
 
@@ -103,13 +89,6 @@ module _ {S : Type 0} (M : Machine S) (Store : S → Type 0) (read : S → Recor
       go : (b : Begun S) → begun_as read b ≡ open_answer c input y cs → is_begun b ≡ true → open_cause c input y cs ≡ 0
       go (begun s) e t = opened_free c input y cs (read s) e
       go (declined cause) e t = absurd (false≢true t)
-
-  -- the calls of a session that was opened
-  pub answers_are : (c input : List ℕ) (y : ℕ) (cs : List ℕ) → OpenedOn M c input y cs → (ms : List (List ℕ)) → All Words ms
-      → answers M c input y cs ms ≡ session_on c input y cs ms
-  answers_are c input y cs o ms h =
-      answers_from c input y cs o.lists o.output ms h
-      ∙ ap (λ (a : OpenAnswer). steps_from c input cs a ms) (free_opens c input y cs (opened_cause c input y cs o))
 
   -- ACCEPTANCE
   module _ (c input : List ℕ) (y : ℕ) (wy : Word y) (rule : Rule Place) (wr : WordRule rule) (cs : List ℕ) (w : WordLists c input cs) where
@@ -123,8 +102,7 @@ module _ {S : Type 0} (M : Machine S) (Store : S → Type 0) (read : S → Recor
         ∙ accepted_passes (check_answer c input y cs (transcript c rule cs))
 
     pub session_is : session_accepts M c input y rule cs ≡ accept.session_accepts c input y rule cs
-    session_is =
-        ap any_accepted (answers_from c input y cs w wy (messages_on c rule cs) messages_words) ∙ from_opening c input y cs (messages_on c rule cs)
+    session_is = ap any_accepted (answers_are c input y cs w wy (messages_on c rule cs) messages_words)
 
   -- PROVE, ASKED FOR ONE MESSAGE AFTER ANOTHER
   pub asking_is : (c input : List ℕ) → Words c → Words input → (buffer : List ℕ → List ℕ) → ((past : List ℕ) → Words (buffer past))

@@ -24,6 +24,10 @@ module _ (c input : List ℕ) (y : ℕ) (cs : List ℕ) where
   unfolding open_answer
   free_opens e = ap (λ (n : ℕ). opened_by n (opened_at c y cs)) e
 
+  pub refused_opens : (cause : ℕ) → open_cause c input y cs ≡ suc cause → open_answer c input y cs ≡ refuses (suc cause)
+  unfolding open_answer
+  refused_opens cause e = ap (λ (n : ℕ). opened_by n (opened_at c y cs)) e
+
   pub answer_cause : cause_in (open_answer c input y cs) ≡ open_cause c input y cs
   unfolding open_answer
   answer_cause = cause_by (open_cause c input y cs) (opened_at c y cs)

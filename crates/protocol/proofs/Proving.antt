@@ -3,7 +3,7 @@
 -- Assumes nothing.
 use Prim.Native.Nat.{ℕ, zero, suc, ◌+◌, ◌≤◌, ◌<◌}
 use mathlib.Core.Path.{◌≡◌, refl, sym, ap, ap₂, ◌∙◌}
-use mathlib.Core.Bool.{Bool, true, false, cond, ◌&&◌, false≢true}
+use mathlib.Core.Bool.{Bool, true, false, cond, false≢true}
 use mathlib.Core.List.{List, [], ◌∷◌, ◌++◌}
 use native.Mathlib.Omega.{arith}
 use lib.Dec.{eqb, ltb}
@@ -29,10 +29,10 @@ use Rattle.protocol.specs.Start.{first_point, later_coins, coins_to}
 use Rattle.protocol.specs.Rounds.{Place, place, rounds, AtRound}
 use Rattle.protocol.specs.Judge.{message_length, descent}
 use Rattle.protocol.specs.Check.{check_answer}
-use Rattle.protocol.specs.Session.{open_cause, session_on}
+use Rattle.protocol.specs.Session.{session_on}
 use Rattle.protocol.specs.Prove.{Proof, proved, refused, OneMessage, wrote, proof_of, one_of, honest, messages_on, transcript, place_of, message_in, asking, Roomy}
 use Rattle.protocol.specs.Prove.{prove_cause, prove_answer, prove_buffer, prove_one_cause, prove_one_answer, prove_one_buffer}
-use Rattle.protocol.specs.Theorems.{ProvedAccepted, ProvedInTurn, WrittenInTurn, AskedAccepted}
+use Rattle.protocol.specs.Theorems.{ProvedAccepted, ProvedInTurn, AskedAccepted}
 use Rattle.protocol.proofs.Rounds.{as_many, coins_split}
 use Rattle.protocol.proofs.Coins.{coin_list, coins_taken}
 use Rattle.protocol.proofs.Truth.{honest_words}
@@ -112,9 +112,9 @@ proved_accepted c input cs buffer y n e =
     ap₂ (λ (v k : ℕ). check_answer c input v cs (take k (prove_buffer c input cs buffer))) (sym told.1) (sym told.2)
     ∙ written_accepted c input cs buffer told.0
 
-pub written_in_turn : WrittenInTurn
+pub proved_in_turn : ProvedInTurn
 unfolding prove_one_answer prove_one_buffer prove_one_cause descent
-written_in_turn c input cs buffer j n size e =
+proved_in_turn c input cs buffer j n size e =
     let prefix : List ℕ = coins_to c j cs in
     let told = no_cause_one (prove_one_cause c input prefix buffer) (message_length c (place_of c prefix)) n e in
     let lists = first_none (lists_cause c input) _ told.0 in
@@ -133,9 +133,6 @@ written_in_turn c input cs buffer j n size e =
           ap (λ (i : ℕ). cond (eqb i 0) (over (honest c input (place_of c prefix) prefix) buffer) buffer) told.0
           ∙ ap (λ (m : List ℕ). over m buffer) (sym (honest_by_prefix c input cs j size short));
     }
-
-pub proved_in_turn : ProvedInTurn
-proved_in_turn c input cs buffer j n size e = (written_in_turn c input cs buffer j n size e).buffer
 
 -- ASKED ONE BY ONE, Prove writes the honest message at each round
 module _ (c input : List ℕ) (legal : lists_cause c input ≡ 0) (buffer : List ℕ → List ℕ) (room : Roomy c buffer) where
@@ -175,6 +172,6 @@ module _ (c input : List ℕ) (legal : lists_cause c input ≡ 0) (buffer : List
 
 pub asked_accepted : AskedAccepted
 asked_accepted c input legal buffer room cs v =
-    ap (λ (ms : List (List ℕ)). passes (open_cause c input (value c input) cs) && any_accepted (session_on c input (value c input) cs ms))
+    ap (λ (ms : List (List ℕ)). any_accepted (session_on c input (value c input) cs ms))
     (asked_same c input legal buffer room cs v)
     ∙ session_complete c input legal cs v

@@ -2,7 +2,7 @@
 -- Assumes nothing.
 use Prim.Native.Nat.{ℕ, suc, ◌+◌, ◌-◌, ◌^◌, ◌≤◌, ◌<◌}
 use mathlib.Core.Path.{◌≡◌, refl, sym, ap, ap₂, ◌∙◌, subst}
-use mathlib.Core.Bool.{Bool, true, false, ◌&&◌, false≢true}
+use mathlib.Core.Bool.{Bool, true, false, false≢true}
 use mathlib.Core.List.{List, ◌∷◌, ◌++◌, map}
 use native.Mathlib.Nat.{le_trans, le_of_eq}
 use native.Mathlib.Omega.{arith}
@@ -21,22 +21,23 @@ use Rattle.walk.specs.Game.{passes, walk}
 use Rattle.walk.specs.Rule.{Rule, said, Fits, play, by_rule}
 use Rattle.walk.specs.Session.{Answer, accepted, Chain, any_accepted, end_of, up_to, calls, at, PassesAt, cut}
 use Rattle.walk.proofs.Play.{said_at}
-use Rattle.walk.proofs.Session.{words_of, session_play, transcript_session, no_lookahead}
-use Rattle.walk.proofs.Session.{own_coin_alone as own-coin-in-walk}
+use Rattle.walk.proofs.Session.{words_of, session_play, transcript_session}
+use Rattle.walk.proofs.Session.{no_early_coin as no-early-coin-in-walk}
 use Rattle.walk.proofs.Session.{compared_first as compared-in-walk}
 use Rattle.protocol.specs.Start.{first_point, later_coins, coins_to, first_claim}
 use Rattle.protocol.specs.Rounds.{Place, place, rounds}
 use Rattle.protocol.specs.Judge.{message_length, descent, input_agrees}
-use Rattle.protocol.specs.Session.{opened_at, session_on}
+use Rattle.protocol.specs.Session.{OpenAnswer, opened_at, steps_from, session_on}
 use Rattle.protocol.specs.Prove.{honest, messages_on, transcript}
 use Rattle.protocol.specs.Accept.{FitsCircuit, whole_accepts, session_accepts}
-use Rattle.protocol.specs.Theorems.{Complete, Sound, Sharp, SameEnd, SameAcceptance, NoEarlyCoin, OwnCoinAlone, ComparedFirst, HonestByPrefix, HonestFits}
+use Rattle.protocol.specs.Theorems.{Complete, Sound, Sharp, SameEnd, SameAcceptance, NoEarlyCoin, ComparedFirst, HonestByPrefix, HonestFits}
 use Rattle.protocol.proofs.Rounds.{chain_all, as_many, coins_split}
 use Rattle.protocol.proofs.Sums.{message_words_lem}
 use Rattle.protocol.proofs.Truth.{claim_before_lem, claim_below}
 use Rattle.protocol.proofs.Descent.{Stands, rounds_head, stands_first, accepts, false_output, bound_of, sharp_of, true_output, honest_sized}
 use Rattle.protocol.proofs.Check.{Opened, opened, opens_on, its_coins, open_legal, open_large, check_large, check_walk, whole_play}
 use Rattle.protocol.proofs.Session.{steps_calls}
+use Rattle.protocol.proofs.Opening.{free_opens, refused_opens}
 
 pub honest_fits : HonestFits
 honest_fits c input legal cs v = honest_sized c input legal cs (coins_split c cs v).before.0
@@ -53,7 +54,8 @@ module _ (c input : List ℕ) (legal : lists_cause c input ≡ 0) where
   steps_from_opening y cs o ms =
       let w = rounds_head c input legal in
       let us : List ℕ = first_point c cs in
-      steps_calls c input legal cs (its_coins o) ms (place 1 0) w.0 us (first_claim c y cs)
+      ap (λ (a : OpenAnswer). steps_from c input cs a ms) (free_opens c input y cs (open_legal c input y cs o))
+      ∙ steps_calls c input legal cs (its_coins o) ms (place 1 0) w.0 us (first_claim c y cs)
       (subst (λ (l : List Place). Stands c l us) w.1 (stands_first c input legal us (coins_split c cs (its_coins o)).before.0))
       (claim_below c y cs o.output)
 
@@ -87,13 +89,14 @@ module _ (c input : List ℕ) (legal : lists_cause c input ≡ 0) where
         let us : List ℕ = first_point c cs in
         let vs : List ℕ = later_coins c cs in
         let claim : ℕ = first_claim c y cs in
-        ap₂ (λ (a b : Bool). a && b) (ap passes (open_legal c input y cs o)) (ap any_accepted (its_calls y cs o (messages_on c rule cs)))
+        ap any_accepted (its_calls y cs o (messages_on c rule cs))
         ∙ ap (λ (l : List Place). any_accepted (calls g final (us ++ vs) (at (place 1 0) claim) (said rule l us vs))) w.1
         ∙ session_play g final rule (place 1 0) w.0 us claim vs (its_chain y cs o)
         (subst (λ (l : List Place). Fits g rule l us vs) w.1 (fits cs (its_coins o))) (a_coin_each y cs o)
         ∙ ap (λ (l : List Place). passes (play g final (by_rule rule) l us claim vs)) (sym w.1)
 
     same_at : CoinList (prime_of c) (coin_count c) cs → session_accepts c input y rule cs ≡ whole_accepts c input y rule cs
+    unfolding any_accepted
     same_at v = go (ltb y (prime_of c)) refl
       where
         go : (b : Bool) → ltb y (prime_of c) ≡ b → session_accepts c input y rule cs ≡ whole_accepts c input y rule cs
@@ -101,7 +104,8 @@ module _ (c input : List ℕ) (legal : lists_cause c input ≡ 0) where
             let o = opens_on c input y cs legal (ltb-true y (prime_of c) e) v in
             session_accepts_lem o ∙ sym (whole_accepts_lem o)
         go false e =
-            ap (λ (n : ℕ). passes n && any_accepted (session_on c input y cs (messages_on c rule cs))) (open_large c input y cs legal e)
+            ap (λ (a : OpenAnswer). any_accepted (steps_from c input cs a (messages_on c rule cs)))
+            (refused_opens c input y cs 12 (open_large c input y cs legal e))
             ∙ sym (ap passes (check_large c input y cs (transcript c rule cs) legal e))
 
     -- what the whole check accepts, the walk accepts
@@ -167,21 +171,7 @@ same_end c input y cs ms e n =
     ∙ sym (check_walk c input y cs ms o n)
 
 pub no_early_coin : NoEarlyCoin
-no_early_coin c input y ms us common rest rest' n e e' =
-    let g = descent c in
-    let final = input_agrees c input in
-    let o = opened c input y (us ++ (common ++ rest)) e in
-    let o' = opened c input y (us ++ (common ++ rest')) e' in
-    let legal = o.given.lists in
-    let first : (more : List ℕ) → first_claim c y (us ++ more) ≡ first_claim c y us = λ more. claim_before_lem c y (us ++ more) ∙ ap (first_claim c y) (take_at us more (output_exponent c) n) in
-    ap (take (length common)) (steps_from_opening c input legal y (us ++ (common ++ rest)) o ms
-    ∙ ap (λ (claim : ℕ). calls g final (us ++ (common ++ rest)) (at (place 1 0) claim) ms) (first (common ++ rest)))
-    ∙ no_lookahead g final ms (place 1 0) (rounds_head c input legal).0 us (first_claim c y us) common rest rest' (chain_first c input legal us n)
-    ∙ sym (ap (take (length common)) (steps_from_opening c input legal y (us ++ (common ++ rest')) o' ms
-    ∙ ap (λ (claim : ℕ). calls g final (us ++ (common ++ rest')) (at (place 1 0) claim) ms) (first (common ++ rest'))))
-
-pub own_coin_alone : OwnCoinAlone
-own_coin_alone c input y ms us common coin coin' more more' n later e e' =
+no_early_coin c input y ms us common coin coin' more more' n later e e' =
     let g = descent c in
     let final = input_agrees c input in
     let rest : List ℕ = coin ∷ more in
@@ -196,7 +186,7 @@ own_coin_alone c input y ms us common coin coin' more more' n later e e' =
     let first : (more : List ℕ) → first_claim c y (us ++ more) ≡ first_claim c y us = λ more. claim_before_lem c y (us ++ more) ∙ ap (first_claim c y) (take_at us more (output_exponent c) n) in
     ap (up_to (length common) coin') (steps_from_opening c input legal y (us ++ (common ++ rest)) o ms
     ∙ ap (λ (claim : ℕ). calls g final (us ++ (common ++ rest)) (at (place 1 0) claim) ms) (first (common ++ rest)))
-    ∙ own-coin-in-walk g final ms (place 1 0) w.0 us (first_claim c y us) common coin coin' more more' (chain_first c input legal us n) short
+    ∙ no-early-coin-in-walk g final ms (place 1 0) w.0 us (first_claim c y us) common coin coin' more more' (chain_first c input legal us n) short
     ∙ sym (ap (take (suc (length common))) (steps_from_opening c input legal y (us ++ (common ++ rest')) o' ms
     ∙ ap (λ (claim : ℕ). calls g final (us ++ (common ++ rest')) (at (place 1 0) claim) ms) (first (common ++ rest'))))
 

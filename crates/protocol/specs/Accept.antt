@@ -1,7 +1,7 @@
 -- "The whole check accepts a coin list if Check, given it and the rule's messages for it in the walk's order, answers accepted". "The session
 -- accepts if one of its calls answers accepted".
 -- Assumes nothing.
-use Rattle.std.specs.Prelude.{ℕ, Bool, ◌&&◌, List}
+use Rattle.std.specs.Prelude.{ℕ, Bool, List}
 use Rattle.counting.specs.Coins.{CoinList}
 use Rattle.circuit.specs.Circuit.{prime_of, coin_count}
 use Rattle.walk.specs.Game.{passes}
@@ -11,7 +11,7 @@ use Rattle.protocol.specs.Start.{first_point, later_coins}
 use Rattle.protocol.specs.Rounds.{Place, rounds}
 use Rattle.protocol.specs.Judge.{descent}
 use Rattle.protocol.specs.Check.{check_answer}
-use Rattle.protocol.specs.Session.{open_cause, session_on}
+use Rattle.protocol.specs.Session.{session_on}
 use Rattle.protocol.specs.Prove.{messages_on, transcript}
 
 -- a rule for this circuit: its messages have the lengths that the walk calls for, "three words for a sum round, k_i + 1 for a line, below p or not"
@@ -21,7 +21,6 @@ FitsCircuit c rule = (cs : List ℕ) → CoinList (prime_of c) (coin_count c) cs
 abbrev pub whole_accepts : List ℕ → List ℕ → ℕ → Rule Place → List ℕ → Bool
 whole_accepts c input y rule cs = passes (check_answer c input y cs (transcript c rule cs))
 
--- an opening, then a step for each message, refused ones among them
+-- an opening, then a step for each message from the record that it gave, refused ones among them
 abbrev pub session_accepts : List ℕ → List ℕ → ℕ → Rule Place → List ℕ → Bool
-session_accepts c input y rule cs =
-    passes (open_cause c input y cs) && any_accepted (session_on c input y cs (messages_on c rule cs))
+session_accepts c input y rule cs = any_accepted (session_on c input y cs (messages_on c rule cs))

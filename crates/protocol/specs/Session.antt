@@ -60,6 +60,10 @@ unfoldable pub steps : List ℕ → List ℕ → List ℕ → Record Place → L
 steps c input cs s [] = []
 steps c input cs s (m ∷ ms) = (step_answer c input cs s m).0 ∷ steps c input cs (step_answer c input cs s m).1 ms
 
--- a session's answers after its opening
+-- a session's answers after its opening: steps from the record that is in the opening's answer, none where it refuses
+abbrev pub steps_from : List ℕ → List ℕ → List ℕ → OpenAnswer → List (List ℕ) → List Answer
+steps_from c input cs (opens s) ms = steps c input cs s ms
+steps_from c input cs (refuses cause) ms = []
+
 abbrev pub session_on : List ℕ → List ℕ → ℕ → List ℕ → List (List ℕ) → List Answer
-session_on c input y cs ms = steps c input cs (opened_at c y cs) ms
+session_on c input y cs ms = steps_from c input cs (open_answer c input y cs) ms

@@ -1,4 +1,4 @@
--- Shares of a circuit's coin lists, as the theorems about the machine name them.
+-- Shares of a circuit's coin lists, as the theorems name them.
 -- Assumes nothing.
 use Rattle.std.specs.Prelude.{ℕ, ◌+◌, ◌-◌, ◌*◌, ◌^◌, ◌≤◌, ◌≡◌, Bool, true, List, map}
 use Rattle.counting.specs.Coins.{CoinList, passing}

@@ -1,21 +1,20 @@
 -- What is proved of the check, the session and the honest messages: `proved` in `proofs/Proved` is the proof of each.
 -- Assumes nothing.
-use Rattle.std.specs.Prelude.{ℕ, suc, ◌+◌, ◌-◌, ◌*◌, ◌^◌, ◌≤◌, ◌<◌, ◌≡◌, Bool, true, List, [], ◌∷◌, ◌++◌, map, length, take, get_or}
+use Rattle.std.specs.Prelude.{ℕ, suc, ◌+◌, ◌<◌, ◌≡◌, Bool, List, [], ◌∷◌, ◌++◌, length, take, get_or}
 use Rattle.lists.specs.Buffer.{over}
-use Rattle.counting.specs.Coins.{CoinList, passing}
-use Rattle.counting.specs.Doomed.{luckless}
-use Rattle.circuit.specs.Circuit.{prime_of, output_exponent, coin_count, message_words, exponent_sum}
+use Rattle.counting.specs.Coins.{CoinList}
+use Rattle.circuit.specs.Circuit.{prime_of, output_exponent, coin_count, message_words}
 use Rattle.circuit.specs.Legal.{lists_cause}
 use Rattle.circuit.specs.Values.{value}
 use Rattle.walk.specs.Rule.{Rule}
 use Rattle.walk.specs.Session.{accepted, going_on, Record, refused, end_of, up_to, PassesAt, cut}
 use Rattle.protocol.specs.Start.{first_point, later_coins, coins_to, first_claim}
 use Rattle.protocol.specs.Rounds.{Place, place, rounds}
-use Rattle.protocol.specs.Judge.{message_length, descent}
+use Rattle.protocol.specs.Judge.{descent}
 use Rattle.protocol.specs.Check.{check_answer}
 use Rattle.protocol.specs.Session.{open_cause, record_left, step_answer, session_on}
 use Rattle.protocol.specs.Prove.{honest, messages_on, place_of, proved, wrote, prove_answer, prove_buffer, prove_one_answer, prove_one_buffer, asking, Roomy}
-use Rattle.protocol.specs.Shares.{PassesAll}
+use Rattle.protocol.specs.Shares.{PassesAll, PassesFew, PassesByLuck}
 use Rattle.protocol.specs.Accept.{FitsCircuit, whole_accepts, session_accepts}
 
 -- acceptance of a coin list, for a circuit, an input, an output and a rule
@@ -25,36 +24,36 @@ Acceptance = List ℕ → List ℕ → ℕ → Rule Place → List ℕ → Bool
 -- COMPLETENESS: "the honest prover's messages for the true output are accepted on all of them"
 abbrev pub Complete : Acceptance → Type 0
 Complete accepts =
-    (c input : List ℕ) → lists_cause c input ≡ 0 → (cs : List ℕ) → CoinList (prime_of c) (coin_count c) cs
-    → accepts c input (value c input) (honest c input) cs ≡ true
+    (c input : List ℕ) → lists_cause c input ≡ 0 → PassesAll c (accepts c input (value c input) (honest c input))
 
 -- SOUNDNESS: "Whatever rule a false prover follows, a false output is accepted on at most 5 × K × p^(n-1) of the p^n coin lists". The rule is
 -- taken after circuit, input and output, so that it may depend on them.
 abbrev pub Sound : Acceptance → Type 0
 Sound accepts =
     (c input : List ℕ) → lists_cause c input ≡ 0 → (y : ℕ) → ¬ (y ≡ value c input) → (rule : Rule Place) → FitsCircuit c rule
-    → passing (prime_of c) (coin_count c) (accepts c input y rule) ≤ 5 * exponent_sum c * prime_of c ^ (coin_count c - 1)
+    → PassesFew c (accepts c input y rule)
+
+-- beyond it, the sharp bound
+abbrev pub Sharp : Acceptance → Type 0
+Sharp accepts =
+    (c input : List ℕ) → lists_cause c input ≡ 0 → (y : ℕ) → ¬ (y ≡ value c input) → (rule : Rule Place) → FitsCircuit c rule
+    → PassesByLuck c (accepts c input y rule)
 
 -- CODE ON BOTH SIDES: "Both forms of Prove write them where the buffer is long enough". The output that Prove answers is accepted with the words
--- that it wrote, whatever the coins; and the message that it writes for a prefix of the coins is the one that the session waits for there.
+-- that it wrote, whatever the coins.
 abbrev pub ProvedAccepted : Type 0
 ProvedAccepted =
     (c input cs buffer : List ℕ) (y n : ℕ) → prove_answer c input cs buffer ≡ proved y n
     → check_answer c input y cs (take n (prove_buffer c input cs buffer)) ≡ 0
-
-abbrev pub ProvedInTurn : Type 0
-ProvedInTurn =
-    (c input cs buffer : List ℕ) (j n : ℕ) → length cs ≡ coin_count c → prove_one_answer c input (coins_to c j cs) buffer ≡ wrote n
-    → prove_one_buffer c input (coins_to c j cs) buffer ≡ over (get_or (messages_on c (honest c input) cs) j []) buffer
 
 -- a message at a buffer's front, and the number of its words
 pub record Writes (m before : List ℕ) (n : ℕ) (after : List ℕ) : Type 0 where
   pub count : n ≡ length m
   pub buffer : after ≡ over m before
 
--- what Prove writes for a prefix of the coins is the message that the session waits for there, and it answers the number of its words;
-abbrev pub WrittenInTurn : Type 0
-WrittenInTurn =
+-- What Prove writes for a prefix of the coins is the message that the session waits for there, and it answers the number of its words;
+abbrev pub ProvedInTurn : Type 0
+ProvedInTurn =
     (c input cs buffer : List ℕ) (j n : ℕ) → length cs ≡ coin_count c → prove_one_answer c input (coins_to c j cs) buffer ≡ wrote n
     → Writes (get_or (messages_on c (honest c input) cs) j []) buffer n (prove_one_buffer c input (coins_to c j cs) buffer)
 
@@ -72,14 +71,7 @@ pub record Demand3 : Type 0 where
   pub session_sound : Sound session_accepts
   pub proved_accepted : ProvedAccepted
   pub proved_in_turn : ProvedInTurn
-
--- beyond it, the sharp bound: of the p^n coin lists those are refused on which no coin is lucky, a message of d + 1 words having at most d
--- lucky coins
-abbrev pub Sharp : Acceptance → Type 0
-Sharp accepts =
-    (c input : List ℕ) → lists_cause c input ≡ 0 → (y : ℕ) → ¬ (y ≡ value c input) → (rule : Rule Place) → FitsCircuit c rule
-    → passing (prime_of c) (coin_count c) (accepts c input y rule) + luckless (prime_of c) (map (λ r. message_length c r - 1) (rounds c))
-    ≤ prime_of c ^ coin_count c
+  pub asked_accepted : AskedAccepted
 
 -- SESSION AND CHECK: "steps on the messages of a transcript of exact length end as the whole check does"
 abbrev pub SameEnd : Type 0
@@ -94,18 +86,10 @@ SameAcceptance =
     → (cs : List ℕ) → CoinList (prime_of c) (coin_count c) cs → session_accepts c input y rule cs ≡ whole_accepts c input y rule cs
 
 -- NO EARLY COIN: "no answer before the last depends on a coin not yet handed out, except the coin it gives". Answer j gives the coin of message
--- j: the first answers, as many as the coins of messages that two lists have in common, are the same, whatever coins follow.
+-- j. Let two coin lists agree before that coin: then the answers 0 to j are the same, but that answer j, where it goes on, goes on with the
+-- list's own coin.
 abbrev pub NoEarlyCoin : Type 0
 NoEarlyCoin =
-    (c input : List ℕ) (y : ℕ) (ms : List (List ℕ)) (before common rest rest' : List ℕ) → length before ≡ output_exponent c
-    → open_cause c input y (before ++ (common ++ rest)) ≡ 0 → open_cause c input y (before ++ (common ++ rest')) ≡ 0
-    → take (length common) (session_on c input y (before ++ (common ++ rest)) ms)
-    ≡ take (length common) (session_on c input y (before ++ (common ++ rest')) ms)
-
--- ITS OWN COIN ALONE: and answer j depends on the coin of message j only in giving it. Let two coin lists agree before that coin: then the answers 0 to j are the same, but that answer j, where it goes on, goes on with the
--- list's own coin.
-abbrev pub OwnCoinAlone : Type 0
-OwnCoinAlone =
     (c input : List ℕ) (y : ℕ) (ms : List (List ℕ)) (before common : List ℕ) (coin coin' : ℕ) (rest rest' : List ℕ)
     → length before ≡ output_exponent c → 0 < length rest
     → open_cause c input y (before ++ (common ++ coin ∷ rest)) ≡ 0 → open_cause c input y (before ++ (common ++ coin' ∷ rest')) ≡ 0
@@ -140,14 +124,11 @@ HonestFits = (c input : List ℕ) → lists_cause c input ≡ 0 → FitsCircuit 
 -- all that this crate states
 pub record Theorems : Type 0 where
   pub demand_3 : Demand3
-  pub written_in_turn : WrittenInTurn
-  pub asked_accepted : AskedAccepted
   pub whole_sharp : Sharp whole_accepts
   pub session_sharp : Sharp session_accepts
   pub same_end : SameEnd
   pub same_acceptance : SameAcceptance
   pub no_early_coin : NoEarlyCoin
-  pub own_coin_alone : OwnCoinAlone
   pub compared_first : ComparedFirst
   pub refusal_keeps : RefusalKeeps
   pub honest_by_prefix : HonestByPrefix

@@ -2,7 +2,7 @@
 -- Assumes nothing.
 use Rattle.walk.specs.Theorems.{Theorems}
 use Rattle.walk.proofs.Play.{walk_said, play_doomed, play_complete}
-use Rattle.walk.proofs.Session.{session_play, transcript_session, compared_first, own_coin_alone}
+use Rattle.walk.proofs.Session.{session_play, transcript_session, compared_first, no_early_coin}
 
 pub proved : Theorems
 proved = record {
@@ -12,5 +12,5 @@ proved = record {
   session_accepts_lem = session_play;
   session_ends = transcript_session;
   compared_first = compared_first;
-  own_coin_alone = own_coin_alone;
+  no_early_coin = no_early_coin;
 }

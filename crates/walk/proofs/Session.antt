@@ -18,7 +18,7 @@ use Rattle.walk.specs.Game.{Game, Comparison, passes, walk}
 use Rattle.walk.specs.Rule.{Rule, said, Fits}
 use Rattle.walk.specs.Session.{Answer, accepted, going_on, refused, Record, ended, any_accepted, end_of, giving, up_to, claim_before}
 use Rattle.walk.specs.Session.{step_final, step_last, step_judge, step_open, step, calls, at, Follows, Chain, cut}
-use Rattle.walk.specs.Theorems.{SessionAccepts, SessionEnds, ComparedFirst, OwnCoinAlone}
+use Rattle.walk.specs.Theorems.{SessionAccepts, SessionEnds, ComparedFirst, NoEarlyCoin}
 use Rattle.walk.proofs.Play.{walk_said}
 
 module _ {R : Type 0} (g : Game R) where
@@ -229,36 +229,14 @@ module _ {R : Type 0} (g : Game R) (final : Comparison) where
       (g.judge r past claim m)
       (ap (λ (x : Answer × Record R). get_or (calls g final (past ++ c ∷ cs) x.1 ms) j accepted) (sym (step_at past c r claim m cs ch.0)) ∙ e)
 
-  -- NO ANSWER LOOKS AHEAD: answers 0 to i depend on the coins 0 to i alone
-  closed_same : (all all' : List ℕ) (s : Record R) (ms : List (List ℕ)) → calls g final all (ended s) ms ≡ calls g final all' (ended s) ms
-  unfolding calls step
-  closed_same all all' s [] = refl
-  closed_same all all' s (m ∷ ms) = ap (λ (l : List Answer). refused 19 ∷ l) (closed_same all all' s ms)
-
-  pub no_lookahead : (ms : List (List ℕ)) (r : R) (rs : List R) (past : List ℕ) (claim : ℕ) (common rest rest' : List ℕ)
-      → Chain g (r ∷ rs) (length past)
-      → take (length common) (calls g final (past ++ (common ++ rest)) (at r claim) ms) ≡ take (length common) (calls g final (past ++ (common ++ rest')) (at r claim) ms)
-  unfolding calls Chain
-  no_lookahead [] r rs past claim common rest rest' ch = refl
-  no_lookahead (m ∷ ms) r rs past claim [] rest rest' ch = refl
-  no_lookahead (m ∷ ms) r rs past claim (c ∷ common) rest rest' ch =
-      let Same : Record R → Type 0 = λ s.
-      take (length common) (calls g final (past ++ c ∷ (common ++ rest)) s ms) ≡ take (length common) (calls g final (past ++ c ∷ (common ++ rest')) s ms) in
-      rw (step_at past c r claim m (common ++ rest) ch.0, step_at past c r claim m (common ++ rest') ch.0)
-      (ap (λ (l : List Answer). (judged past c r claim m (g.judge r past claim m)).0 ∷ l)
-      (after_step past c r claim m Same rs ch.1 (ap (take (length common)) (closed_same _ _ (at r claim) ms))
-      (λ r' rs' e. rw (← append_assoc past (c ∷ []) (common ++ rest), ← append_assoc past (c ∷ []) (common ++ rest'))
-      (no_lookahead ms r' rs' (past ++ (c ∷ [])) (g.next m c) common rest rest' (rw (length-append, add-one) (rw e at ch.2))))
-      (g.judge r past claim m)))
-
-  -- ITS OWN COIN ALONE: the answers before answer j depend on the coins before coin j alone, and answer j on coin j only where it gives it.
-  -- An ended record's answers give no coin.
-  closed_given : (all all' : List ℕ) (s : Record R) (j c : ℕ) (ms : List (List ℕ))
+  -- NO EARLY COIN: the answers before answer j depend on the coins before coin j alone, and answer j on coin j only where it gives it. An ended
+  -- record's answers give no coin.
+  closed_same : (all all' : List ℕ) (s : Record R) (j c : ℕ) (ms : List (List ℕ))
       → up_to j c (calls g final all (ended s) ms) ≡ take (suc j) (calls g final all' (ended s) ms)
   unfolding calls step up_to
-  closed_given all all' s j c [] = refl
-  closed_given all all' s zero c (m ∷ ms) = refl
-  closed_given all all' s (suc j) c (m ∷ ms) = ap (λ (l : List Answer). refused 19 ∷ l) (closed_given all all' s j c ms)
+  closed_same all all' s j c [] = refl
+  closed_same all all' s zero c (m ∷ ms) = refl
+  closed_same all all' s (suc j) c (m ∷ ms) = ap (λ (l : List Answer). refused 19 ∷ l) (closed_same all all' s j c ms)
 
   -- a message that is not the last, with two coins
   own_coin : (past : List ℕ) (c c' : ℕ) (r : R) (claim : ℕ) (m : List ℕ) (k : ℕ) → g.last r ≡ false
@@ -266,23 +244,23 @@ module _ {R : Type 0} (g : Game R) (final : Comparison) where
   own_coin past c c' r claim m (suc k) e = refl
   own_coin past c c' r claim m zero e = rw e refl
 
-  pub own_coin_alone : OwnCoinAlone g final
+  pub no_early_coin : NoEarlyCoin g final
   unfolding calls Chain up_to
-  own_coin_alone [] r rs past claim common c c' rest rest' ch n = refl
-  own_coin_alone (m ∷ ms) r [] past claim [] c c' rest rest' ch n = absurd (not-suc-le-zero n)
-  own_coin_alone (m ∷ ms) r (r' ∷ rs) past claim [] c c' rest rest' ch n =
+  no_early_coin [] r rs past claim common c c' rest rest' ch n = refl
+  no_early_coin (m ∷ ms) r [] past claim [] c c' rest rest' ch n = absurd (not-suc-le-zero n)
+  no_early_coin (m ∷ ms) r (r' ∷ rs) past claim [] c c' rest rest' ch n =
       rw (step_at past c r claim m rest ch.0, step_at past c' r claim m rest' ch.0)
       (ap (λ (a : Answer). a ∷ []) (own_coin past c c' r claim m (g.judge r past claim m) ch.1.0))
-  own_coin_alone (m ∷ ms) r rs past claim (d ∷ common) c c' rest rest' ch n =
+  no_early_coin (m ∷ ms) r rs past claim (d ∷ common) c c' rest rest' ch n =
       let left : List ℕ = common ++ c ∷ rest in
       let left' : List ℕ = common ++ c' ∷ rest' in
       let Same : Record R → Type 0 = λ s.
       up_to (length common) c' (calls g final (past ++ d ∷ left) s ms) ≡ take (suc (length common)) (calls g final (past ++ d ∷ left') s ms) in
       rw (step_at past d r claim m left ch.0, step_at past d r claim m left' ch.0)
       (ap (λ (l : List Answer). (judged past d r claim m (g.judge r past claim m)).0 ∷ l)
-      (after_step past d r claim m Same rs ch.1 (closed_given _ _ (at r claim) (length common) c' ms)
+      (after_step past d r claim m Same rs ch.1 (closed_same _ _ (at r claim) (length common) c' ms)
       (λ r' rs' e. rw (← append_assoc past (d ∷ []) left, ← append_assoc past (d ∷ []) left')
-      (own_coin_alone ms r' rs' (past ++ (d ∷ [])) (g.next m d) common c c' rest rest' (rw (length-append, add-one) (rw e at ch.2))
+      (no_early_coin ms r' rs' (past ++ (d ∷ [])) (g.next m d) common c c' rest rest' (rw (length-append, add-one) (rw e at ch.2))
       (omega (arith, n, ap length e))))
       (g.judge r past claim m)))
 

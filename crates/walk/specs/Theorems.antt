@@ -52,8 +52,8 @@ module _ {R : Type 0} (g : Game R) (final : Comparison) where
 
   -- and no answer looks ahead: those before answer j depend on the coins before coin j alone, and answer j, where it is not the last, on coin j
   -- only in giving it.
-  abbrev pub OwnCoinAlone : Type 0
-  OwnCoinAlone =
+  abbrev pub NoEarlyCoin : Type 0
+  NoEarlyCoin =
       (ms : List (List ℕ)) (r : R) (rs : List R) (past : List ℕ) (claim : ℕ) (common : List ℕ) (c c' : ℕ) (rest rest' : List ℕ)
       → Chain g (r ∷ rs) (length past) → length common < length rs
       → up_to (length common) c' (calls g final (past ++ (common ++ c ∷ rest)) (at r claim) ms)
@@ -68,4 +68,4 @@ pub record Theorems : Type 1 where
   pub session_accepts_lem : {R : Type 0} (g : Game R) (final : Comparison) → SessionAccepts g final
   pub session_ends : {R : Type 0} (g : Game R) (final : Comparison) → SessionEnds g final
   pub compared_first : {R : Type 0} (g : Game R) (final : Comparison) → ComparedFirst g final
-  pub own_coin_alone : {R : Type 0} (g : Game R) (final : Comparison) → OwnCoinAlone g final
+  pub no_early_coin : {R : Type 0} (g : Game R) (final : Comparison) → NoEarlyCoin g final
