@@ -1,4 +1,4 @@
--- "A circuit is legal if none of 1 to 7 holds of its list, an input if it is 2^k_D residues": the refusals 1 to 9 in their order.
+-- "A circuit is legal if none of 1 to 7 holds of its list .., an input if it is 2^k_D residues": the refusals 1 to 9 in their order.
 -- Assumes nothing.
 use Rattle.std.specs.Prelude.{ℕ, ◌+◌, ◌^◌, Bool, true, not, ◌&&◌, ◌||◌, List, [], ◌∷◌, eqb, ltb, leb, length}
 use Rattle.primes.specs.Prime.{is_listed}
@@ -11,21 +11,20 @@ unfoldable pub all_below : ℕ → List ℕ → Bool
 all_below p [] = true
 all_below p (w ∷ ws) = ltb w p && all_below p ws
 
--- "1 fewer than 2 words; 2 p not listed; 3 D outside 1 to 16; 4 the list ends before its D exponents, or one is above 8; 5 the word
--- count is not what they call for"
+-- 3 "D is outside 1 to 16", 4 "the list ends before its D exponents, or one is above 8"
 abbrev pub depth_good : List ℕ → Bool
 depth_good c = leb 1 (depth c) && leb (depth c) max_depth
 
 abbrev pub exponents_good : List ℕ → Bool
 exponents_good c = eqb (length (exponents c)) (depth c) && all_below (max_exponent + 1) (exponents c)
 
--- the wires of a gate above a layer of `next` gates: "left or right outside the next layer, left above right, or an empty gate with
--- a nonzero wire"
+-- the wires of a gate above a layer of `next` gates; 7 "a gate's left or right is outside the next layer, left is above right, or the gate is
+-- empty and has a nonzero wire"
 unfoldable pub wires_good : ℕ → Gate → Bool
 wires_good next g =
     ltb g.left next && (ltb g.right next && (leb g.left g.right && (not (eqb g.kind 0) || (eqb g.left 0 && eqb g.right 0))))
 
--- "then by the first bad gate: 6 kind above 2; 7" its wires
+-- 6 "a gate's kind is above 2", then 7: "inside a gate 6 before 7"
 unfoldable pub gate_cause : ℕ → Gate → ℕ
 gate_cause next g = need (leb g.kind max_kind) 6 (need (wires_good next g) 7 0)
 
@@ -49,7 +48,7 @@ load_answer c =
     (need (eqb (length c) (word_count c)) 5
     (layers_cause (exponents c) (gate_layers c))))))
 
--- "8 input count not 2^k_D; 9 an input word not below p"
+-- 8 "the input count is not 2^k_D", 9 "an input word is not below p"
 unfoldable pub input_cause : List ℕ → List ℕ → ℕ
 input_cause c input = need (eqb (length input) (input_count c)) 8 (need (all_below (prime_of c) input) 9 0)
 

@@ -22,7 +22,7 @@ max_width = 2 ^ max_exponent
 abbrev pub max_gates : ℕ
 max_gates = 1 + (max_depth - 1) * max_width
 
--- "all 4,097 gate and input words of the largest circuit"
+-- "gate and input values" of the largest circuit, 4,097
 abbrev pub max_values : ℕ
 max_values = max_gates + max_width
 

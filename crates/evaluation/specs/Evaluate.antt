@@ -10,7 +10,8 @@ use Rattle.circuit.specs.Circuit.{value_count}
 use Rattle.circuit.specs.Legal.{lists_cause}
 use Rattle.circuit.specs.Values.{layers, value}
 
--- EVALUATE: "1 to 7; 8; 9; 10 value buffer too short. It answers the output; the buffer begins with layers 0 to D, the rest unchanged."
+-- EVALUATE: "It refuses by 1 to 9, then 10 where the buffer is shorter than the values of this circuit. Otherwise it answers the output; the buffer
+-- begins with the values of layers 0 to D in order, the rest unchanged."
 unfoldable pub evaluate_cause : List ℕ → List ℕ → List ℕ → ℕ
 evaluate_cause c input buffer = first (lists_cause c input) (need (leb (value_count c) (length buffer)) 10 0)
 

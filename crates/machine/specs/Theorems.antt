@@ -50,7 +50,7 @@ abbrev pub Sharp : Acceptance → Type 0
 Sharp accepts =
     (c input : List ℕ) → Job c input → (y : ℕ) → FalseOutput c input y → (rule : Rule Place) → AnyRule c rule → PassesByLuck c (accepts c input y rule)
 
--- "it does so exactly when the whole check accepts": the session, and the whole check
+-- "the session accepts a coin list exactly when the whole check accepts it"
 abbrev pub SameAcceptance : Acceptance → Acceptance → Type 0
 SameAcceptance session whole =
     (c input : List ℕ) → Job c input → (y : ℕ) → Word y → (rule : Rule Place) → AnyRule c rule

@@ -8,7 +8,7 @@ use Rattle.algebra.specs.Numbers.{Numbers, words}
 abbrev pub odd : ℕ → Bool
 odd n = eqb (n % 2) 1
 
--- "A gate's index is written in k bits, the highest bit belonging to the first variable."
+-- "The index of a value in a list of 2^k values is written in k bits, the highest bit belonging to the first variable."
 unfoldable pub bits : ℕ → ℕ → List Bool
 bits zero b = []
 bits (suc k) b = odd (b / 2 ^ k) ∷ bits k b

@@ -1,4 +1,4 @@
--- What every program prints: "On a refusal it prints only `refused` and the number; input above 65,536 bytes is 20."
+-- What every program prints: "On a refusal a program prints only `refused` and the number." "Input above 65,536 bytes is 20".
 -- Assumes nothing.
 use Rattle.std.specs.Prelude.{ℕ, zero, suc, List, [], ◌∷◌}
 use Rattle.std.proofs.Math.Option.{Option, none, some}

@@ -11,7 +11,7 @@ use Rattle.evaluate_text.specs.Output as output
 use Rattle.programs.specs.declared.Program.{Program}
 use Rattle.programs.specs.declared.Program.TheVariants.{Transcript, Verdict, Evaluate}
 
--- "reads circuit, input and coins as three arrays"; a verdict's reads the transcript too, and an output's no coins
+-- how many arrays a program reads: "circuit, input, coins, transcript", without the last, and the first two alone
 abbrev pub arrays_of : Program → ℕ
 arrays_of Transcript = 3
 arrays_of Verdict = 4

@@ -1,4 +1,4 @@
--- "Check, whole: 1 to 9; 13 output not below p; 11; 12; 14 message words not the exact total; then the walk".
+-- Check, whole: "It refuses by 1 to 9, 13, 11, 12, then 14 where the message words are not the exact total." Then comes the walk.
 -- Assumes nothing.
 use Rattle.std.specs.Prelude.{ℕ, ◌≡◌, List, eqb, ltb, length}
 use Rattle.refusal.specs.Order.{need, first}
@@ -9,7 +9,7 @@ use Rattle.protocol.specs.Start.{first_point, later_coins, first_claim}
 use Rattle.protocol.specs.Rounds.{rounds}
 use Rattle.protocol.specs.Judge.{descent, input_agrees}
 
--- "11 coin count not n; 12 a coin not below p", then the rest
+-- 11 "the coin count is not n", 12 "a coin is not below p", then the rest
 abbrev pub need_coins : List ℕ → List ℕ → ℕ → ℕ
 need_coins c cs rest = need (eqb (length cs) (coin_count c)) 11 (need (all_below (prime_of c) cs) 12 rest)
 

@@ -52,7 +52,8 @@ unfoldable pub compared : List ℕ → Bool → Place → List ℕ → List ℕ 
 compared c true r past m = line_claim c r.layer (point_at c r.layer past) (fixed c r.layer past) (message_at c m 0) (message_at c m 1)
 compared c false r past m = (words (prime_of c)).add (message_at c m 0) (message_at c m 1)
 
--- "14 wrong message length; 15 a word not below p; 16 a sum round differs; 17 the line message doesn't give the claim"
+-- "It tries in this order: 14 the message's length is not three words for a sum round, k_i + 1 for a line; 15 a word is not below p; 16 in a sum
+-- round, or 17 at a line, the comparison fails."
 unfoldable pub judge : List ℕ → Place → List ℕ → ℕ → List ℕ → ℕ
 judge c r past claim m =
     need (eqb (length m) (message_length c r)) 14

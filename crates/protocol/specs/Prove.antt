@@ -24,7 +24,7 @@ message_from c vs r past =
     (sum_message (words (prime_of c)) (exponent_at c r.layer) (gates_above c r.layer) (point_at c r.layer past)
     vs (fixed c r.layer past))
 
--- "The honest messages are a rule too: the walk's"
+-- "The honest messages are a rule too."
 unfoldable pub honest : List ℕ → List ℕ → Rule Place
 honest c input r past = message_from c (values_at c input r.layer) r past
 
@@ -35,8 +35,8 @@ messages_on c rule cs = said rule (rounds c) (first_point c cs) (later_coins c c
 unfoldable pub transcript : List ℕ → Rule Place → List ℕ → List ℕ
 transcript c rule cs = flatten (messages_on c rule cs)
 
--- "Prove, whole: 1 to 9; 11 coin count not n; 12 a coin not below p; 10 message buffer too short. It answers the output and the words written;
--- each message is written directly after the one before it, the rest unchanged."
+-- Prove, whole: "It refuses by 1 to 9, 11, 12, then 10 where the buffer is shorter than all message words. Otherwise it answers the output and
+-- the number of words written; each honest message is written directly after the one before it, the rest unchanged."
 pub data Proof : Type 0 where
   proved : ℕ → ℕ → Proof
   refused : ℕ → Proof
@@ -55,8 +55,8 @@ unfoldable pub prove_buffer : List ℕ → List ℕ → List ℕ → List ℕ �
 prove_buffer c input cs buffer =
     cond (eqb (prove_cause c input cs buffer) 0) (over (transcript c (honest c input) cs) buffer) buffer
 
--- "Prove, one message: the same refusals with a coin prefix, 11 where it has n coins or more. It writes the message that follows the prefix at
--- the buffer's start, leaves the rest and answers its word count."
+-- Prove, one message: "It refuses by 1 to 9, by 11 where the prefix has n coins or more, by 12, then by 10 where the buffer is shorter than this
+-- message. Otherwise it writes the honest message that follows the prefix at the buffer's start, leaves the rest and answers its word count."
 abbrev pub place_of : List ℕ → List ℕ → Place
 place_of c prefix = get_or (rounds c) (length prefix - output_exponent c) (place 0 0)
 

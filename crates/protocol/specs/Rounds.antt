@@ -18,7 +18,7 @@ unfoldable pub rounds_of : ℕ → ℕ → ℕ → List Place
 rounds_of i j zero = place i j ∷ []
 rounds_of i j (suc n) = place i j ∷ rounds_of i (suc j) n
 
--- "For layer i = 1 to D, with k = k_i: 2k sum rounds .. One line message": the layers from i on, of these exponents
+-- "Layer i has 2k sum rounds", "One line message f follows": the layers from i on, of these exponents
 unfoldable pub rounds_from : ℕ → List ℕ → List Place
 rounds_from i [] = []
 rounds_from i (k ∷ ks) = rounds_of i 0 (2 * k) ++ rounds_from (suc i) ks

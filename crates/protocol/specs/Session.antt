@@ -10,7 +10,7 @@ use Rattle.protocol.specs.Rounds.{Place, place}
 use Rattle.protocol.specs.Judge.{descent, input_agrees}
 use Rattle.protocol.specs.Check.{need_coins}
 
--- "Open session: 1 to 9, 13, 11, 12. The record has layer 1, round 0, the claim, and is open."
+-- Open session: "It refuses by 1 to 9, 13, 11, 12." "The record has layer 1, round 0, the output as claim, and is open."
 unfoldable pub open_cause : List ℕ → List ℕ → ℕ → List ℕ → ℕ
 open_cause c input y cs = first (lists_cause c input) (need (ltb y (prime_of c)) 13 (need_coins c cs 0))
 
@@ -28,7 +28,7 @@ opened_by (suc cause) s = refuses (suc cause)
 unfoldable pub open_answer : List ℕ → List ℕ → ℕ → List ℕ → OpenAnswer
 open_answer c input y cs = opened_by (open_cause c input y cs) (opened_at c y cs)
 
--- "19 the record is ended, its layer or round is outside this circuit, or its claim isn't below p"
+-- 19 "the record is ended, its layer or round is outside this circuit, or its claim is not below p"
 unfoldable pub record_fits : List ℕ → Record Place → Bool
 record_fits c s =
     s.opened
@@ -36,7 +36,7 @@ record_fits c s =
     && (leb s.round.layer (length (exponents c))
     && (leb s.round.round (2 * exponent_at c s.round.layer) && ltb s.claim (prime_of c))))
 
--- "Step takes circuit, input, coins, the record and one message: 1 to 9, 11, 12; 19", then 14 to 18
+-- Step: "It refuses by 1 to 9, 11, 12, 19 .., then as the judgement does"
 unfoldable pub step_cause : List ℕ → List ℕ → List ℕ → Record Place → ℕ
 step_cause c input cs s = first (lists_cause c input) (need_coins c cs (need (record_fits c s) 19 0))
 

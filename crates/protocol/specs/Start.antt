@@ -1,5 +1,5 @@
--- Where the walk starts: "The standing claim starts as the output, the point as the empty point." Both are read off the coins that come before
--- any message, k_0 of them, which is none.
+-- Where the walk starts: "The standing claim starts as the output, the standing point as the empty point." Both are read off the coins that come
+-- before any message, k_0 of them, which is none.
 -- Assumes nothing.
 use Rattle.std.specs.Prelude.{ℕ, ◌+◌, List, take, drop}
 use Rattle.circuit.specs.Circuit.{output_exponent}

@@ -39,8 +39,8 @@ Sharp accepts =
     (c input : List ℕ) → lists_cause c input ≡ 0 → (y : ℕ) → ¬ (y ≡ value c input) → (rule : Rule Place) → FitsCircuit c rule
     → PassesByLuck c (accepts c input y rule)
 
--- CODE ON BOTH SIDES: "Both forms of Prove write them where the buffer is long enough". The output that Prove answers is accepted with the words
--- that it wrote, whatever the coins.
+-- CODE ON BOTH SIDES: "Both forms of Prove write the honest messages where the buffer is long enough." The output that Prove answers is accepted
+-- with the words that it wrote, whatever the coins.
 abbrev pub ProvedAccepted : Type 0
 ProvedAccepted =
     (c input cs buffer : List ℕ) (y n : ℕ) → prove_answer c input cs buffer ≡ proved y n
@@ -79,7 +79,7 @@ SameEnd =
     (c input : List ℕ) (y : ℕ) (cs ms : List ℕ) → open_cause c input y cs ≡ 0 → length ms ≡ message_words c
     → end_of (session_on c input y cs (cut (descent c) (rounds c) ms)) ≡ check_answer c input y cs ms
 
--- "it does so exactly when the whole check accepts"
+-- "the session accepts a coin list exactly when the whole check accepts it"
 abbrev pub SameAcceptance : Type 0
 SameAcceptance =
     (c input : List ℕ) → lists_cause c input ≡ 0 → (y : ℕ) (rule : Rule Place) → FitsCircuit c rule

@@ -14,7 +14,8 @@ module _ {C : Type 0} (N : Numbers C) where
   abbrev pub gate_weight : List C → List C → List C → ℕ → ℕ → ℕ → C
   gate_weight point u v a b c = weight N a point ⊗ weight N b u ⊗ weight N c v
 
-  -- "A sums .. over the add gates a of layer i-1 ..; M does so over the multiply gates": the sum over the gates of a kind
+  -- "A is the sum of weight(a, point) × weight(b, u) × weight(c, v) over the add gates", "M is the same sum over the multiply gates": the sum
+  -- over the gates of a kind
   unfoldable pub wiring : ℕ → List Gate → List C → List C → List C → C
   wiring kind gs point u v = sum_from N (λ a g. cond (eqb g.kind kind) (gate_weight point u v a g.left g.right) 𝟘) 0 gs
 

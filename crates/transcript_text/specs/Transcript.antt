@@ -1,4 +1,4 @@
--- What the program `transcript` prints: "Each line is a word, then decimal numbers: the output, a round's coefficients, or the line's."
+-- What the program `transcript` prints: "`claim` and the output, then for each message `sum` or `line` and its words".
 -- Assumes nothing.
 use Rattle.std.specs.Prelude.{ℕ, cond, List, [], ◌∷◌, ◌++◌, take, drop}
 use Rattle.refusal.specs.Order.{first}
@@ -23,7 +23,7 @@ messages_text c (r ∷ rs) ms = line_text (word_of c r) (take (message_length c 
 abbrev pub proof_text : List ℕ → ℕ → List ℕ → List ℕ
 proof_text c y ms = line_text (ascii "claim") (y ∷ []) ++ messages_text c (rounds c) ms
 
--- "1 to 9; 11 coin count not n; 12 a coin not below p": Prove's refusals, but for a buffer of its caller
+-- "1 to 9, 11, 12": Prove's refusals, but for a buffer of its caller
 abbrev pub lists_refusal : List ℕ → List ℕ → List ℕ → ℕ
 lists_refusal c input cs = first (lists_cause c input) (need_coins c cs 0)
 

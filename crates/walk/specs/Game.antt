@@ -31,7 +31,7 @@ final_cause equal = cond equal 0 18
 
 module _ {R : Type 0} (g : Game R) (final : Comparison) where
   -- THE WHOLE CHECK, from the rounds left, the coins so far, the standing claim, the message words left and the coins left: 0 accepted,
-  -- else the first cause. "the walk stops at the first message that earns one of these"
+  -- else the first cause. "the walk stops at the first message that earns one of 15, 16 and 17"
   unfoldable pub walk : List R → List ℕ → ℕ → List ℕ → List ℕ → ℕ
   walk [] past claim ms cs = final_cause (final past claim)
   walk (r ∷ rs) past claim ms [] = 11

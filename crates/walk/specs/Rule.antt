@@ -4,8 +4,8 @@ use Rattle.std.specs.Prelude.{ℕ, ◌≡◌, List, [], ◌∷◌, ◌++◌, len
 use Rattle.refusal.specs.Order.{first}
 use Rattle.walk.specs.Game.{Game, Comparison, final_cause}
 
--- "A rule is any function from .. these coins to a message": it sees the round and "the coins handed out before a message", which are "those
--- that come before it in the walk"
+-- "A rule is any function from .. the coins handed out before a message to this message": it sees the round, and these coins are "those that come
+-- before it in the walk"
 abbrev pub Rule : Type 0 → Type 0
 Rule R = R → List ℕ → List ℕ
 
