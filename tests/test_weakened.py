@@ -1,7 +1,6 @@
 """Weakens the contract of each function that demand 3 counts on, and sees that what stands on it is refused.
 
-    python3 tests/test_weakened.py          the functions of the library's crate
-    python3 tests/test_weakened.py --all    and the operations that they call, which takes three times as long
+    python3 tests/test_weakened.py
 
 The promise is given for legal circuits and inputs alone, by a condition in the `ensures` or by a `requires`, and the proof is fitted to it: the
 function's own crate is proved as before. Of an operation the library's function that calls it is refused, or Check, which opens as Open does; of a
@@ -12,6 +11,7 @@ What `kidlothe_c` exports to C is not among the hypotheses, since no crate can s
 of the library's function of its name.
 """
 import concurrent.futures
+import os
 import pathlib
 import re
 import shutil
@@ -21,17 +21,16 @@ import tempfile
 
 TOP = pathlib.Path(__file__).resolve().parent.parent
 CONTRACTS = "proofs/Contracts.antt"
-# groups that share a copy: the crate, and for each case the function, how it is weakened, and what is refused, a function or a field of `contracts_say`
-LIBRARY = [
+# groups that share a copy: the crate, and for each case the function, how it is weakened, and what is refused, a function or a field of `contracts_say`;
+# the longest first
+GROUPS = [
+    ("session", [("open", "ensures", "verifier::check"), ("step", "ensures", "kidlothe::kidlothe_step")]),
+    ("prover", [("prove", "ensures", "kidlothe::kidlothe_prove"), ("prove_one", "ensures", "kidlothe::kidlothe_prove_one")]),
+    ("verifier", [("check", "ensures", "kidlothe::kidlothe_check")]),
     ("kidlothe", [("kidlothe_check", "ensures", "exported_check"), ("kidlothe_open", "ensures", "exported_begin"),
                   ("kidlothe_step", "ensures", "exported_step")]),
     ("kidlothe", [("kidlothe_prove", "ensures", "exported_prove"), ("kidlothe_prove_one", "ensures", "exported_prove_one"),
                   ("kidlothe_check", "requires", "exported_check_asks")]),
-]
-OPERATIONS = [
-    ("session", [("open", "ensures", "verifier::check"), ("step", "ensures", "kidlothe::kidlothe_step")]),
-    ("prover", [("prove", "ensures", "kidlothe::kidlothe_prove"), ("prove_one", "ensures", "kidlothe::kidlothe_prove_one")]),
-    ("verifier", [("check", "ensures", "kidlothe::kidlothe_check")]),
 ]
 LEGAL = "lists_cause circuit.now input.now ≡ 0"
 MODULE = "ghost use Rattle.circuit.specs.Legal."
@@ -139,9 +138,8 @@ def other_exports():
 
 
 def main():
-    groups = LIBRARY + (OPERATIONS if sys.argv[1:] == ["--all"] else [])
-    with concurrent.futures.ThreadPoolExecutor(2) as pool:
-        found = [*other_exports(), *(one for answers in pool.map(try_group, groups) for one in answers)]
+    with concurrent.futures.ThreadPoolExecutor(os.cpu_count()) as pool:
+        found = [*other_exports(), *(one for answers in pool.map(try_group, GROUPS) for one in answers)]
     for _, words in found:
         print(words)
     sys.exit(any(wrong for wrong, _ in found))

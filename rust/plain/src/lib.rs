@@ -1,6 +1,6 @@
 //! Layered arithmetic circuits and their sum-check verifier, in plain Rust.
 //!
-//! An independent plain implementation of document 01, for comparison and as the yardstick of the benchmark.
+//! An independent plain implementation of the specification, for comparison and as the yardstick of the benchmark.
 //! Every list is a slice of words, every refusal is its number alone, and a refused call writes nothing,
 //! but for the end of a session.
 

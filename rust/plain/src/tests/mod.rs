@@ -1,4 +1,4 @@
-//! Tests of the operations: the paper's cases, its edges, and honest transcripts of drawn circuits.
+//! Tests of the operations: the specification's cases, its edges, and honest transcripts of drawn circuits.
 
 mod cases;
 mod edges;
