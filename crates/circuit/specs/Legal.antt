@@ -38,7 +38,7 @@ layers_cause ks [] = 0
 layers_cause [] (gs ∷ ls) = 0
 layers_cause (k ∷ ks) (gs ∷ ls) = first (gates_cause (2 ^ k) gs) (layers_cause ks ls)
 
--- LOAD: the refusal's number, 0 where the list is legal
+-- LOAD: "It refuses by 1, 2, 3, 4, 5 in this order, then by the first bad gate"; 0 where the list is legal
 unfoldable pub load_answer : List ℕ → ℕ
 load_answer c =
     need (leb header_words (length c)) 1

@@ -11,7 +11,7 @@ use Rattle.evaluate_text.specs.Output as output
 use Rattle.programs.specs.declared.Program.{Program}
 use Rattle.programs.specs.declared.Program.TheVariants.{Transcript, Verdict, Evaluate}
 
--- how many arrays a program reads: "circuit, input, coins, transcript", without the last, and the first two alone
+-- of "circuit, input, coins, transcript" the program `transcript` reads the first three, `verdict` all, `evaluate` the first two
 abbrev pub arrays_of : Program → ℕ
 arrays_of Transcript = 3
 arrays_of Verdict = 4

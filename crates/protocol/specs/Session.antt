@@ -36,7 +36,7 @@ record_fits c s =
     && (leb s.round.layer (length (exponents c))
     && (leb s.round.round (2 * exponent_at c s.round.layer) && ltb s.claim (prime_of c))))
 
--- Step: "It refuses by 1 to 9, 11, 12, 19 .., then as the judgement does"
+-- Step, before the judgement: "It refuses by 1 to 9, 11, 12, 19"
 unfoldable pub step_cause : List ℕ → List ℕ → List ℕ → Record Place → ℕ
 step_cause c input cs s = first (lists_cause c input) (need_coins c cs (need (record_fits c s) 19 0))
 

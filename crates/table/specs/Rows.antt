@@ -49,55 +49,55 @@ abbrev pub swapped : List ℕ
 swapped = 13 ∷ 1 ∷ 1 ∷ 2 ∷ 1 ∷ 0 ∷ []
 
 -- THE CASES
--- C1: "the lists and the transcript of 10.1"
+-- C1: "the lists and the transcript of 10.1", accepted
 abbrev pub c1 : Row
 c1 = row product (two 3 5) 2 (three 4 6 9) (layer (three 2 8 3) (three 0 5 12) (two 11 4)) 0
 
--- C2: "C1 with first message 2 8 4"
+-- C2: "C1 with first message 2 8 4", 16
 abbrev pub c2 : Row
 c2 = row product (two 3 5) 2 (three 4 6 9) (layer (three 2 8 4) (three 0 5 12) (two 11 4)) 16
 
--- C3: "C1 with output 3, a false one"
+-- C3: "C1 with output 3, a false one", 16
 abbrev pub c3 : Row
 c3 = row product (two 3 5) 3 (three 4 6 9) (layer (three 2 8 3) (three 0 5 12) (two 11 4)) 16
 
--- C4: "C1 with line 12 4"
+-- C4: "C1 with line 12 4", 17
 abbrev pub c4 : Row
 c4 = row product (two 3 5) 2 (three 4 6 9) (layer (three 2 8 3) (three 0 5 12) (two 12 4)) 17
 
--- C5: "C1 with line 2 9"
+-- C5: "C1 with line 2 9", 18
 abbrev pub c5 : Row
 c5 = row product (two 3 5) 2 (three 4 6 9) (layer (three 2 8 3) (three 0 5 12) (two 2 9)) 18
 
--- C6: "C1 with line 1 8, a wrong line that meets the true one at t = 9"
+-- C6: "C1 with line 1 8, a wrong line that meets the true one at t = 9", accepted
 abbrev pub c6 : Row
 c6 = row product (two 3 5) 2 (three 4 6 9) (layer (three 2 8 3) (three 0 5 12) (two 1 8)) 0
 
--- C7: "C1 with output 3 and first message 10 6 3, a false output with lucky coins"
+-- C7: "C1 with output 3 and first message 10 6 3, a false output with lucky coins", accepted
 abbrev pub c7 : Row
 c7 = row product (two 3 5) 3 (three 4 6 9) (layer (three 10 6 3) (three 0 5 12) (two 11 4)) 0
 
--- C8: "C7 with first coin 5"
+-- C8: "C7 with first coin 5", 16
 abbrev pub c8 : Row
 c8 = row product (two 3 5) 3 (three 5 6 9) (layer (three 10 6 3) (three 0 5 12) (two 11 4)) 16
 
--- C9: "circuit 13 1 0 2 0 0, input 7, output 10, any coin: message 6; and message 7". 6 and 7 have the same square, 10, so that the line gives
--- the claim with either: only the last comparison tells them apart, where k_D is 0.
+-- C9: "circuit 13 1 0 2 0 0, input 7, output 10, any coin: message 6; and message 7", 18 and accepted. 6 and 7 have the same square, 10, so
+-- that the line gives the claim with either: only the last comparison tells them apart, where k_D is 0.
 abbrev pub c9_refused : ℕ → Row
 c9_refused t = row square (one 7) 10 (one t) (one 6 ∷ []) 18
 
 abbrev pub c9_accepted : ℕ → Row
 c9_accepted t = row square (one 7) 10 (one t) (one 7 ∷ []) 0
 
--- C10: "circuit 13 1 0 0 0 0, input 7, output 0, any coin: message 7, the honest one"
+-- C10: "circuit 13 1 0 0 0 0, input 7, output 0, any coin: message 7, the honest one", accepted
 abbrev pub c10 : ℕ → Row
 c10 t = row empty (one 7) 0 (one t) (one 7 ∷ []) 0
 
--- C11: "circuit 13 1 1 2 1 0, the rest as in C1"
+-- C11: "circuit 13 1 1 2 1 0, the rest as in C1", 7
 abbrev pub c11 : Row
 c11 = row swapped (two 3 5) 2 (three 4 6 9) (layer (three 2 8 3) (three 0 5 12) (two 11 4)) 7
 
--- C12: "C1 with first message 15 8 3: 15 and 2 agree modulo 13"
+-- C12: "C1 with first message 15 8 3: 15 and 2 agree modulo 13", 15
 abbrev pub c12 : Row
 c12 = row product (two 3 5) 2 (three 4 6 9) (layer (three 15 8 3) (three 0 5 12) (two 11 4)) 15
 

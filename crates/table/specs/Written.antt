@@ -11,7 +11,7 @@ use Rattle.table.specs.Rows.{Row, one, two, three, product, square, empty, c1, c
 unfoldable pub honest_rows : List Row
 honest_rows = (c1 ∷ []) ++ every_coin c9_accepted ++ every_coin c10
 
--- of C1 the messages are "sum 2 8 3 sum 0 5 12 line 11 4"
+-- of C1: "claim 2 sum 2 8 3 sum 0 5 12 line 11 4"
 abbrev pub IsHonest : Row → Type 0
 IsHonest r =
     (value r.circuit r.input ≡ r.output)
