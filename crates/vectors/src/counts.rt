@@ -2,6 +2,9 @@
 // a session. The lists of a case are a circuit with three messages, of three, three and two words, its input, the output, and the rule's
 // messages: the first one, then the second ones in the order of the coin before them, then the third ones in the order of the two coins
 // before them.
+ghost use Rattle.std.specs.Prelude.{◌≤◌, IfOk};
+ghost use Rattle.vectors.specs.Counts.{all_lists};
+
 use session::Verdict;
 use std::io::{Result, Write};
 
@@ -71,13 +74,14 @@ fn steps_accepted(
     session::step(circuit, input, coins, session, &messages[6..]).verdict == Verdict::Accepted
 }
 
-// Counts the lists on which the messages that each list's number gives are accepted, and prints both counts.
+// Counts the lists on which the messages that each list's number gives are accepted, prints both counts, and answers the check's.
 fn count<W: Write, M: Fn(&[u32], &[u32], u32) -> [u32; 8]>(
     output: &mut W,
     lists: &[u32],
     messages_of: M,
-) -> Result<()>
+) -> Result<u32>
     requires { M.IsAlwaysCallable messages_of }
+    ensures { IfOk result (λ n. n ≤ all_lists) }
 {
     let circuit = cases::list(lists, 0);
     let input = cases::list(lists, 1);
@@ -95,11 +99,14 @@ fn count<W: Write, M: Fn(&[u32], &[u32], u32) -> [u32; 8]>(
     write!(
         output,
         "accepted on {by_check} by check, {by_session} by session"
-    )
+    )?;
+    Ok(by_check)
 }
 
 // Of the prover's messages, all at once.
-pub fn count_whole<W: Write>(output: &mut W, lists: &[u32]) -> Result<()> {
+pub fn count_whole<W: Write>(output: &mut W, lists: &[u32]) -> Result<u32>
+    ensures { IfOk result (λ n. n ≤ all_lists) }
+{
     count(
         output,
         lists,
@@ -108,7 +115,9 @@ pub fn count_whole<W: Write>(output: &mut W, lists: &[u32]) -> Result<()> {
 }
 
 // Of the prover's messages, one after the other.
-pub fn count_single<W: Write>(output: &mut W, lists: &[u32]) -> Result<()> {
+pub fn count_single<W: Write>(output: &mut W, lists: &[u32]) -> Result<u32>
+    ensures { IfOk result (λ n. n ≤ all_lists) }
+{
     count(
         output,
         lists,
@@ -117,7 +126,9 @@ pub fn count_single<W: Write>(output: &mut W, lists: &[u32]) -> Result<()> {
 }
 
 // Of a rule's messages.
-pub fn count_rule<W: Write>(output: &mut W, lists: &[u32]) -> Result<()> {
+pub fn count_rule<W: Write>(output: &mut W, lists: &[u32]) -> Result<u32>
+    ensures { IfOk result (λ n. n ≤ all_lists) }
+{
     let rule = cases::list(lists, 3);
     count(output, lists, |_, _, number| ruled(rule, number))
 }

@@ -128,7 +128,8 @@ fn read<W: Write>(output: &mut W, bytes: &[u8], lists: &[u32]) -> Result<()> {
     })
 }
 
-// What an operation answers. By a match: a function cannot be handed out, and closures would hide the list of operations.
+// Prints what an operation answers; what its function gives back was printed. By a match: a function cannot be handed out, and closures would
+// hide the list of operations.
 fn answer<W: Write>(
     output: &mut W,
     operation: Operation,
@@ -136,18 +137,50 @@ fn answer<W: Write>(
     lists: &[u32],
 ) -> Result<()> {
     match operation {
-        Operation::Load => circuits::load(output, lists),
-        Operation::Evaluate => circuits::evaluate(output, lists),
-        Operation::Read => read(output, bytes, lists),
-        Operation::Prove => provers::prove(output, lists),
-        Operation::ProveOne => provers::prove_one(output, lists),
-        Operation::Check => verdicts::check(output, lists),
-        Operation::Open => verdicts::open(output, lists),
-        Operation::Step => verdicts::step(output, lists),
-        Operation::CountWhole => counts::count_whole(output, lists),
-        Operation::CountSingle => counts::count_single(output, lists),
-        Operation::CountRule => counts::count_rule(output, lists),
+        Operation::Load => {
+            let _ = circuits::load(output, lists)?;
+        }
+        Operation::Evaluate => {
+            lend(output, cases::list(lists, 2), |output, lent| {
+                let _ = circuits::evaluate(output, lists, lent)?;
+                Ok(())
+            })?;
+        }
+        Operation::Read => {
+            read(output, bytes, lists)?;
+        }
+        Operation::Prove => {
+            lend(output, cases::list(lists, 3), |output, lent| {
+                let _ = provers::prove(output, lists, lent)?;
+                Ok(())
+            })?;
+        }
+        Operation::ProveOne => {
+            lend(output, cases::list(lists, 3), |output, lent| {
+                let _ = provers::prove_one(output, lists, lent)?;
+                Ok(())
+            })?;
+        }
+        Operation::Check => {
+            let _ = verdicts::check(output, lists)?;
+        }
+        Operation::Open => {
+            let _ = verdicts::open(output, lists)?;
+        }
+        Operation::Step => {
+            verdicts::step(output, lists)?;
+        }
+        Operation::CountWhole => {
+            counts::count_whole(output, lists)?;
+        }
+        Operation::CountSingle => {
+            counts::count_single(output, lists)?;
+        }
+        Operation::CountRule => {
+            counts::count_rule(output, lists)?;
+        }
     }
+    Ok(())
 }
 
 // What stands between a note and what a program prints, which ends its lines itself.

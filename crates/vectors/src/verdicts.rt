@@ -1,5 +1,14 @@
-// Cases of check, open and step.
-use session::{Session, Verdict};
+// Cases of check, open and step. Each prints the operation's answer and gives it back.
+ghost use Rattle.std.specs.Prelude.{◌≡◌, get_or, IfOk};
+ghost use Rattle.refusal.specs.Number.{cause_of};
+ghost use Rattle.protocol.specs.Check.{check_answer};
+ghost use Rattle.protocol.specs.Session.{open_answer};
+ghost use Rattle.session.specs.Answers.{opening_of, Steps};
+ghost use Rattle.cases.specs.Parts.{list_at};
+ghost use Rattle.vectors.specs.Record.{session_in};
+
+use refusal::Cause;
+use session::{Session, Stepped, Verdict};
 use std::io::{Result, Write};
 
 fn print_record<W: Write>(output: &mut W, session: Session) -> Result<()> {
@@ -12,7 +21,9 @@ fn print_record<W: Write>(output: &mut W, session: Session) -> Result<()> {
 }
 
 // The record whose figures are in a list. A function, since neither the record nor a list is a type of this program.
-fn record(figures: &[u32]) -> Session {
+fn record(figures: &[u32]) -> Session
+    ensures { result ≡ session_in figures.now }
+{
     Session {
         layer: lists::word(figures, 0),
         round: lists::word(figures, 1),
@@ -21,7 +32,10 @@ fn record(figures: &[u32]) -> Session {
     }
 }
 
-pub fn check<W: Write>(output: &mut W, lists: &[u32]) -> Result<()> {
+pub fn check<W: Write>(output: &mut W, lists: &[u32]) -> Result<std::result::Result<(), Cause>>
+    ensures { IfOk result (λ r. cause_of r
+        ≡ check_answer (list_at 0 lists.now) (list_at 1 lists.now) (get_or (list_at 2 lists.now) 0 0) (list_at 3 lists.now) (list_at 4 lists.now)) }
+{
     let outcome = verifier::check(
         cases::list(lists, 0),
         cases::list(lists, 1),
@@ -29,10 +43,14 @@ pub fn check<W: Write>(output: &mut W, lists: &[u32]) -> Result<()> {
         cases::list(lists, 3),
         cases::list(lists, 4),
     );
-    crate::print(output, outcome, |output, ()| output.write_all(b"accepted"))
+    crate::print(output, outcome, |output, ()| output.write_all(b"accepted"))?;
+    Ok(outcome)
 }
 
-pub fn open<W: Write>(output: &mut W, lists: &[u32]) -> Result<()> {
+pub fn open<W: Write>(output: &mut W, lists: &[u32]) -> Result<std::result::Result<Session, Cause>>
+    ensures { IfOk result (λ r. opening_of r
+        ≡ open_answer (list_at 0 lists.now) (list_at 1 lists.now) (get_or (list_at 2 lists.now) 0 0) (list_at 3 lists.now)) }
+{
     let opening = session::open(
         cases::list(lists, 0),
         cases::list(lists, 1),
@@ -42,10 +60,14 @@ pub fn open<W: Write>(output: &mut W, lists: &[u32]) -> Result<()> {
     crate::print(output, opening, |output, session| {
         output.write_all(b"opened")?;
         print_record(output, session)
-    })
+    })?;
+    Ok(opening)
 }
 
-pub fn step<W: Write>(output: &mut W, lists: &[u32]) -> Result<()> {
+pub fn step<W: Write>(output: &mut W, lists: &[u32]) -> Result<Stepped>
+    ensures { IfOk result (λ r.
+        Steps (list_at 0 lists.now) (list_at 1 lists.now) (list_at 2 lists.now) (session_in (list_at 3 lists.now)) (list_at 4 lists.now) r) }
+{
     let stepped = session::step(
         cases::list(lists, 0),
         cases::list(lists, 1),
@@ -64,5 +86,6 @@ pub fn step<W: Write>(output: &mut W, lists: &[u32]) -> Result<()> {
             cases::print_refused(output, cause)?;
         }
     }
-    print_record(output, stepped.session)
+    print_record(output, stepped.session)?;
+    Ok(stepped)
 }
