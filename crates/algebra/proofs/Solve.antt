@@ -178,7 +178,8 @@ module _ {C : Type 0} {N : Numbers C} (R : Ring N) where
     ins_v_ok i [] = refl
     ins_v_ok i (j ∷ m) = go (ins_v_ok i m) (leb i j)
       where
-        go : ev_m (ins_v i m) ≡ get_or ρ i 𝟘 ⊗ ev_m m → (b : Bool) → ev_m (elim b [ true ↦ i ∷ j ∷ m | false ↦ j ∷ ins_v i m ]) ≡ get_or ρ i 𝟘 ⊗ (get_or ρ j 𝟘 ⊗ ev_m m)
+        go : ev_m (ins_v i m) ≡ get_or ρ i 𝟘 ⊗ ev_m m → (b : Bool)
+            → ev_m (elim b [ true ↦ i ∷ j ∷ m | false ↦ j ∷ ins_v i m ]) ≡ get_or ρ i 𝟘 ⊗ (get_or ρ j 𝟘 ⊗ ev_m m)
         go h true = refl
         go h false = ap (λ (x : C). get_or ρ j 𝟘 ⊗ x) h ∙ swap_mul (get_or ρ j 𝟘) (get_or ρ i 𝟘) (ev_m m)
           where

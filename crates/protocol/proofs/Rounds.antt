@@ -74,7 +74,8 @@ module _ (c : List ℕ) where
       let en : length front' ≡ suc (length front) = length-append front (k ∷ []) ∙ add-one (length front) in
       let ec : k₀ + coins_of front' ≡ k₀ + coins_of front + 2 * k + 1 = omega (arith, coins_append front (k ∷ []), coins_one k) in
       let ih : Chain (descent c) (rounds_from (suc (length front')) back) (k₀ + coins_of front') = chain_from front' back (append_assoc front (k ∷ []) back ∙ e) in
-      chain_rounds i 0 (2 * k) (k₀ + coins_of front) (rounds_from (suc i) back) (omega arith) (rw ek (omega arith)) (line_follows i back (omega (arith, length-append front (k ∷ back), ap length e)))
+      chain_rounds i 0 (2 * k) (k₀ + coins_of front) (rounds_from (suc i) back) (omega arith) (rw ek (omega arith))
+      (line_follows i back (omega (arith, length-append front (k ∷ back), ap length e)))
       (subst (Chain (descent c) (rounds_from (suc i) back)) ec (subst (λ (x : ℕ). Chain (descent c) (rounds_from (suc x) back) (k₀ + coins_of front')) en ih))
 
   pub chain_all : Chain (descent c) (rounds c) (output_exponent c)

@@ -183,7 +183,8 @@ no_early_coin c input y ms us common coin coin' more more' n later e e' =
     let total : length us + (length common + length rest) ≡ coin_count c =
     sym (length-append us (common ++ rest) ∙ ap (λ (k : ℕ). length us + k) (length-append common rest)) ∙ o.given.coins in
     let short : length common < length w.0 = omega (arith, total, as_many c, ap length w.1, n, later) in
-    let first : (more : List ℕ) → first_claim c y (us ++ more) ≡ first_claim c y us = λ more. claim_before_lem c y (us ++ more) ∙ ap (first_claim c y) (take_at us more (output_exponent c) n) in
+    let first : (more : List ℕ) → first_claim c y (us ++ more) ≡ first_claim c y us =
+    λ more. claim_before_lem c y (us ++ more) ∙ ap (first_claim c y) (take_at us more (output_exponent c) n) in
     ap (up_to (length common) coin') (steps_from_opening c input legal y (us ++ (common ++ rest)) o ms
     ∙ ap (λ (claim : ℕ). calls g final (us ++ (common ++ rest)) (at (place 1 0) claim) ms) (first (common ++ rest)))
     ∙ no-early-coin-in-walk g final ms (place 1 0) w.0 us (first_claim c y us) common coin coin' more more' (chain_first c input legal us n) short
