@@ -6,14 +6,17 @@ use crate::refusal::{self, require};
 pub(crate) const ADD: u32 = 1;
 pub(crate) const MULTIPLY: u32 = 2;
 
-const MOST_LAYERS: usize = 16;
+const MOST_LAYERS: usize = 12;
 const MOST_EXPONENT: u32 = 8;
 
 /// The gates of the widest layer.
-pub(crate) const MOST_WIDTH: usize = 256;
+pub(crate) const MOST_WIDTH: usize = 1 << MOST_EXPONENT;
 
 /// All gate and input words of the largest circuit.
 pub(crate) const MOST_VALUES: usize = 1 + MOST_LAYERS * MOST_WIDTH;
+
+/// The words of the largest circuit's list: prime, depth, exponents, and three for each gate.
+pub(crate) const MOST_LIST_WORDS: usize = 2 + MOST_LAYERS + 3 * (MOST_VALUES - MOST_WIDTH);
 
 /// Kind, left wire, right wire.
 pub(crate) type Gate = [u32; 3];

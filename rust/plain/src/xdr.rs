@@ -1,9 +1,12 @@
 //! RFC 4506 arrays of unsigned integers.
 
+use crate::circuit::MOST_LIST_WORDS;
 use crate::refusal::{self, require};
 
 const MOST_ARRAYS: usize = 4;
-const MOST_WORDS: u32 = 11_541;
+
+/// No array is longer than the largest circuit's list.
+const MOST_WORDS: u32 = MOST_LIST_WORDS as u32;
 
 /// Reads the given number of arrays; the buffer then begins with the words of all of them.
 pub fn read(bytes: &[u8], number: u32, buffer: &mut [u32]) -> Result<[u32; 4], u32> {

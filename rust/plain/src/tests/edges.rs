@@ -25,11 +25,25 @@ fn the_head_of_the_list() {
 }
 
 #[test]
-fn depth_16_and_17() {
-    assert_eq!(load(&circuit_of(13, &[8; 16])), Ok(()));
-    assert_eq!(circuit_of(13, &[8; 16]).len(), 11_541);
-    assert_eq!(load(&circuit_of(13, &[0; 17])), Err(3));
+fn depth_12_and_13() {
+    assert_eq!(load(&circuit_of(13, &[8; 12])), Ok(()));
+    assert_eq!(circuit_of(13, &[8; 12]).len(), 8_465);
+    assert_eq!(load(&circuit_of(13, &[0; 13])), Err(3));
     assert_eq!(load(&[13, 0, 2, 0, 0]), Err(3));
+}
+
+#[test]
+fn the_largest_circuit() {
+    let circuit = circuit_of(13, &[8; 12]);
+    let mut values = [SENTINEL; 3_074];
+    assert_eq!(evaluate(&circuit, &[1; 256], &mut values[..3_072]), Err(10));
+    assert_eq!(evaluate(&circuit, &[1; 256], &mut values), Ok(1));
+    assert_eq!(values[3_072..], [1, SENTINEL]);
+    let mut messages = [SENTINEL; 685];
+    assert_eq!(prove(&circuit, &[1; 256], &[2; 204], &mut messages[..683]), Err(10));
+    assert_eq!(prove(&circuit, &[1; 256], &[2; 204], &mut messages), Ok((1, 684)));
+    assert_eq!(messages[684], SENTINEL);
+    assert_eq!(check(&circuit, &[1; 256], 1, &[2; 204], &messages[..684]), Ok(()));
 }
 
 #[test]
@@ -160,10 +174,10 @@ fn arrays_are_read_whole_or_not_at_all() {
 }
 
 #[test]
-fn counts_of_11_541_and_11_542() {
-    for (count, answer) in [(11_541, Ok([11_541, 0, 0, 0])), (11_542, Err(20))] {
+fn counts_of_8_465_and_8_466() {
+    for (count, answer) in [(8_465, Ok([8_465, 0, 0, 0])), (8_466, Err(20))] {
         let mut bytes = u32::to_be_bytes(count).to_vec();
         bytes.resize(4 + 4 * count as usize, 1);
-        assert_eq!(read(&bytes, 1, &mut vec![0; 11_542]), answer);
+        assert_eq!(read(&bytes, 1, &mut vec![0; 8_466]), answer);
     }
 }

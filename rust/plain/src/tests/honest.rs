@@ -56,7 +56,7 @@ fn honest_transcripts_are_accepted_and_false_outputs_refused() {
         let circuit = draw.circuit(prime, &exponents);
         let input = draw.residues(prime, 1 << exponents[depth - 1]);
         let coins = draw.residues(prime, coin_count(&exponents));
-        let mut messages = [0; 912];
+        let mut messages = [0; 684];
         let (output, words) = prove(&circuit, &input, &coins, &mut messages).unwrap();
         let messages = &messages[..words];
         assert_eq!(check(&circuit, &input, output, &coins, messages), Ok(()), "turn {turn}");
