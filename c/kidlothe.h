@@ -51,8 +51,8 @@ enum {
     KIDLOTHE_NONE = 0,
     KIDLOTHE_HEADER_SHORT = 1,    /* the circuit has fewer than 2 words */
     KIDLOTHE_PRIME_UNLISTED = 2,  /* p is not 13, 65537, 2147483647 or 4294967291 */
-    KIDLOTHE_DEPTH_RANGE = 3,     /* D is not from 1 to 16 */
-    KIDLOTHE_EXPONENT_RANGE = 4,  /* the circuit ends before its D exponents, or one is above 8 */
+    KIDLOTHE_DEPTH_RANGE = 3,     /* D is not from 1 to KIDLOTHE_MAX_DEPTH */
+    KIDLOTHE_EXPONENT_RANGE = 4,  /* the circuit ends before its D exponents, or one is above KIDLOTHE_MAX_EXPONENT */
     KIDLOTHE_WORD_COUNT = 5,      /* the circuit has not as many words as its exponents call for */
     KIDLOTHE_GATE_KIND = 6,       /* a gate's kind is above 2 */
     KIDLOTHE_GATE_WIRES = 7,      /* a wire outside the next layer, left above right, or a wire at an empty gate */
@@ -71,13 +71,17 @@ enum {
     KIDLOTHE_BYTES_UNFIT = 20     /* the bytes are not the arrays that were called for */
 };
 
-/* Lengths that are enough for every legal circuit. */
+/* A circuit has at most so many layers, each with at most so large a width exponent, and these lengths are then enough
+ * for it: the words of its list, which are also the most that an array of bytes may have, its gate and input values, its
+ * coins, the words of all messages and of one. */
 enum {
-    KIDLOTHE_MAX_CIRCUIT_WORDS = 11541,
-    KIDLOTHE_MAX_VALUES = 4097,
-    KIDLOTHE_MAX_COINS = 272,
-    KIDLOTHE_MAX_MESSAGE_WORDS = 912,
-    KIDLOTHE_MAX_ONE_MESSAGE = 9
+    KIDLOTHE_MAX_DEPTH = 12,
+    KIDLOTHE_MAX_EXPONENT = 8,
+    KIDLOTHE_MAX_CIRCUIT_WORDS = 2 + KIDLOTHE_MAX_DEPTH + 3 * (1 + ((KIDLOTHE_MAX_DEPTH - 1) << KIDLOTHE_MAX_EXPONENT)),
+    KIDLOTHE_MAX_VALUES = 1 + (KIDLOTHE_MAX_DEPTH << KIDLOTHE_MAX_EXPONENT),
+    KIDLOTHE_MAX_COINS = KIDLOTHE_MAX_DEPTH * (2 * KIDLOTHE_MAX_EXPONENT + 1),
+    KIDLOTHE_MAX_MESSAGE_WORDS = KIDLOTHE_MAX_DEPTH * (7 * KIDLOTHE_MAX_EXPONENT + 1),
+    KIDLOTHE_MAX_ONE_MESSAGE = KIDLOTHE_MAX_EXPONENT + 1
 };
 
 /* A session's record: layer, round, claim, and 1 while it is open. Any other fourth word is an ended session's. It

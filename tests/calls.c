@@ -133,6 +133,8 @@ static void test_limits(void)
     static const uint32_t zeros[KIDLOTHE_MAX_VALUES];
     size_t depth = deepest(), exponent = widest(), width = (size_t)1 << exponent;
     size_t words = build(depth, exponent);
+    expect(depth == KIDLOTHE_MAX_DEPTH, "the header's depth is the largest");
+    expect(exponent == KIDLOTHE_MAX_EXPONENT, "the header's exponent is the largest");
     expect(kidlothe_load(largest, words) == KIDLOTHE_NONE, "the largest circuit is legal");
     expect(words == KIDLOTHE_MAX_CIRCUIT_WORDS, "its words are the header's");
     expect(kidlothe_evaluate(largest, words, zeros, width, values, KIDLOTHE_MAX_VALUES).refusal == 0, "the header's values hold its own");

@@ -4,9 +4,8 @@
     tests/make_cases.py             writes the files
     tests/make_cases.py --check     says which of them are not what the vectors give; the exit status is then 1
 
-The vectors are in tests/vectors, a case with its answer on each line (`read.py` there reads them): base.jsonl, and a file for each later
-request that changes or adds operations, come from an implementation that shares nothing with this repository; own.jsonl has what these
-leave out. No answer is computed here. A check is a case of the program `verdict` too, and an evaluation one of the program `evaluate`: the
+The vectors are in tests/vectors, a case with its answer on each line (`read.py` there reads them): the files rNN.jsonl, each of the state after
+a change, come from an implementation that shares nothing with this repository; own.jsonl has what these leave out. No answer is computed here. A check is a case of the program `verdict` too, and an evaluation one of the program `evaluate`: the
 arguments are put into bytes, and the answer is the text that the program prints.
 
 The form of a case stands at the top of crates/vectors/src/main.rt, that of a printed buffer in the crate cases.
@@ -17,11 +16,12 @@ import sys
 
 ROOT = pathlib.Path(__file__).resolve().parent.parent
 VECTORS = ROOT / "tests" / "vectors"
-sys.path.insert(0, str(VECTORS))
-import read
+sys.path[:0] = [str(VECTORS), str(ROOT / "tools")]
+import read  # noqa: E402
+import textform  # noqa: E402
 
-# The last request that has landed, 0 for none.
-REQUEST = 0
+# The last change that has landed, by the number of its vectors.
+CHANGE = 1
 # The numbers of the operations in crates/vectors/src/main.rt.
 OPERATIONS = {"load": 1, "evaluate": 2, "read": 3, "prove": 4, "prove_one": 5, "check": 6, "open": 7, "step": 8, "transcript": 9,
               "verdict": 10, "output": 11, "count_whole": 12, "count_single": 13, "count_rule": 14}
@@ -32,15 +32,15 @@ MOST_PRINTED, MODULUS = 24, 100000000000000003
 # The figures of a record, in the order in which they are given and printed.
 FIGURES = ("layer", "round", "claim", "open")
 # What a program reads: bytes, and words of an array.
-MOST_READ, MAX_COUNT = 65536, 11541
+MOST_READ, MAX_COUNT = 65536, textform.MAX_COUNT
 # The cases of the programs that read standard input whole: operation and note.
 RUNS = {"transcript": ("transcript", "worked"), "verdict": ("verdict", "C1"), "evaluate": ("output", "C1")}
 
 
 def vectors():
     """All cases that hold now, and those that they give of programs."""
-    own = ({**case, "file": "own.jsonl"} for case in read.cases(VECTORS / "own.jsonl", REQUEST))
-    for case in itertools.chain(read.holding(REQUEST), own):
+    own = ({**case, "file": "own.jsonl"} for case in read.cases(VECTORS / "own.jsonl", CHANGE))
+    for case in itertools.chain(read.holding(CHANGE), own):
         yield case
         yield from program_cases(case)
 
@@ -84,7 +84,7 @@ def list_of(argument):
 def stdin_of(case):
     """A case's bytes."""
     op, args, note = case["op"], case["args"], note_of(case).encode("ascii")
-    names = read.takes(REQUEST, op) if op in read.TAKES else list(args)
+    names = read.takes(CHANGE, op) if op in read.TAKES else list(args)
     lists = [list_of(args[name]) for name in names if name != "bytes"]
     starts = itertools.accumulate(map(len, lists), initial=1 + len(lists))
     data = args.get("bytes", b"")

@@ -22,7 +22,7 @@ INVOICE_COINS = 24
 REFUSED = [
     ("words 13", None, None, 1, "fewer than 2 words"),
     ("prime 12\nexponents 1\nlayer 0\nmul 0 1", None, None, 2, "none of 13, 65537, 2147483647 and 4294967291"),
-    ("words 13 0", None, None, 3, "from 1 to 16"),
+    ("words 13 0", None, None, 3, "from 1 to 12"),
     ("prime 13\nexponents 9\nlayer 0\nmul 0 1", None, None, 4, "above 8"),
     ("words 13 1 1 2 0", None, None, 5, "as many words as its exponents call for"),
     ("words 13 1 1 3 0 1", None, None, 6, "kind"),
@@ -184,7 +184,7 @@ class Job(unittest.TestCase):
 
     def test_standard_input_of_a_byte_more_than_is_read(self):
         """65,536 bytes that are three arrays are refused for their input, and one byte more makes them too many."""
-        counted = ([13, 1, 1, 2, 0, 1], 4834 * [3], 11541 * [4])
+        counted = ([13, 1, 1, 2, 0, 1], 7910 * [3], 8465 * [4])
         data = b"".join(n.to_bytes(4, "big") for words in counted for n in [len(words)] + words)
         self.assertEqual(len(data), 65536)
         for given, answer in ((data, b"refused 8\n"), (data + bytes(1), b"refused 20\n")):

@@ -101,8 +101,8 @@ PASSED_ON = [
     ("circuit", b"prime 13\nexponents 4294967295 1\nlayer 0\nempty\nlayer 1\n", [13, 2, 2 ** 32 - 1, 1, 0, 0, 0]),
     ("circuit", b"prime 13\nexponents 1\nlayer 0\nmul 1 0\n", [13, 1, 1, 2, 1, 0]),
     ("circuit", b"prime 13\nexponents 1\nlayer 0\nadd 7 4294967295\n", [13, 1, 1, 1, 7, 2 ** 32 - 1]),
-    ("circuit", b"prime 13\nexponents" + 17 * b" 0" + b"\n" + b"".join(b"layer %d\nempty\n" % i for i in range(17)),
-     [13, 17] + 17 * [0] + 51 * [0]),
+    ("circuit", b"prime 13\nexponents" + 13 * b" 0" + b"\n" + b"".join(b"layer %d\nempty\n" % i for i in range(13)),
+     [13, 13] + 13 * [0] + 39 * [0]),
     ("circuit", b"words", []),
     ("circuit", b"words 13\n", [13]),
     ("circuit", b"words 13 1\n# more\nwords\nwords 1 3 0 1", [13, 1, 1, 3, 0, 1]),
@@ -246,7 +246,7 @@ class RoundTrips(unittest.TestCase):
 
     def test_transcripts_are_told_apart_by_the_exponents(self):
         for _ in range(500):
-            exponents = [self.draw.randrange(9) for _ in range(self.draw.randrange(1, 17))]
+            exponents = [self.draw.randrange(9) for _ in range(self.draw.randrange(1, textform.MAX_DEPTH + 1))]
             words = [random_word(self.draw) for _ in range(1 + sum(7 * k + 1 for k in exponents))]
             lines = self.again("transcript", words, [13, len(exponents), *exponents]).splitlines()
             self.assertEqual([line.split()[0] for line in lines], ["claim"] + [w for k in exponents for w in 2 * k * ["sum"] + ["line"]])

@@ -11,7 +11,7 @@ unfoldable pub all_below : ℕ → List ℕ → Bool
 all_below p [] = true
 all_below p (w ∷ ws) = ltb w p && all_below p ws
 
--- 3 "D is outside 1 to 16", 4 "the list ends before its D exponents, or one is above 8"
+-- 3 "D is outside 1 to 12", 4 "the list ends before its D exponents, or one is above 8"
 abbrev pub depth_good : List ℕ → Bool
 depth_good c = leb 1 (depth c) && leb (depth c) max_depth
 

@@ -2,9 +2,9 @@
 -- Assumes nothing.
 use Rattle.std.specs.Prelude.{ℕ, ◌+◌, ◌-◌, ◌*◌, ◌^◌}
 
--- "D from 1 to 16"
+-- "D from 1 to 12"
 abbrev pub max_depth : ℕ
-max_depth = 16
+max_depth = 12
 
 -- "its width exponent k_i, from 0 to 8"
 abbrev pub max_exponent : ℕ
@@ -22,7 +22,7 @@ max_width = 2 ^ max_exponent
 abbrev pub max_gates : ℕ
 max_gates = 1 + (max_depth - 1) * max_width
 
--- "gate and input values" of the largest circuit, 4,097
+-- "gate and input values" of the largest circuit
 abbrev pub max_values : ℕ
 max_values = max_gates + max_width
 

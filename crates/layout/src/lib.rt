@@ -12,7 +12,7 @@ ghost use Rattle.layout.specs.Gate.{KindOf, gate_of, gate_in};
 use field::Field;
 use refusal::Cause;
 
-pub const MAX_DEPTH: usize = 16;
+pub const MAX_DEPTH: usize = 12;
 
 pub const MAX_EXPONENT: u32 = 8;
 
@@ -21,6 +21,9 @@ const HEADER: usize = 2;
 
 // The words of a gate.
 pub const GATE_WORDS: usize = 3;
+
+// The words of the longest legal list: one gate in layer 0, and as many as there can be in every other.
+pub const MAX_WORDS: usize = HEADER + MAX_DEPTH + GATE_WORDS * (1 + (MAX_DEPTH - 1) * (1 << MAX_EXPONENT));
 
 // What a gate does with the values of its wires. Its first word is the kind's number.
 #[derive(Clone, Copy, PartialEq, Eq, Debug)]

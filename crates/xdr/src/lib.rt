@@ -8,8 +8,8 @@ ghost use Rattle.xdr.specs.Read.{first_word, words, size, whole, arrays, called,
 
 use refusal::Cause;
 
-// The largest count of words in an array.
-const MAX_COUNT: u32 = 11541;
+// The largest count of words in an array: the longest circuit list has as many.
+const MAX_COUNT: u32 = layout::MAX_WORDS as u32;
 
 // The bytes of an array of so many words, its count included.
 fn size(count: u32) -> usize

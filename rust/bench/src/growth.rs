@@ -2,6 +2,7 @@
 use crate::circuits::{Shape, LARGEST_PRIME};
 use crate::operations::OPERATIONS;
 use crate::timing::{times, Times};
+use kidlothe::MAX_DEPTH;
 
 /// The depth at which the width grows, and the exponent at which the depth grows.
 pub const DEPTH: usize = 4;
@@ -35,7 +36,7 @@ pub fn measured() -> Growth {
             depth: DEPTH,
             exponent,
         }),
-        by_depth: lines(&[1, 2, 4, 6, 8, 10, 12, 14, 16], |depth| Shape {
+        by_depth: lines(&[1, 2, 4, 6, 8, 10, MAX_DEPTH], |depth| Shape {
             prime: LARGEST_PRIME,
             depth,
             exponent: EXPONENT,

@@ -3,10 +3,11 @@ use crate::circuits::{Shape, PRIMES};
 use crate::growth::{Growth, Line, DEPTH, EXPONENT};
 use crate::operations::OPERATIONS;
 use crate::timing::{times, Times};
+use kidlothe::{MAX_DEPTH, MAX_EXPONENT};
 use std::fmt::Write;
 
 /// A size by name: its depth and exponent.
-const SIZES: [(&str, usize, usize); 3] = [("small", 2, 2), ("middle", 8, 5), ("largest", 16, 8)];
+const SIZES: [(&str, usize, usize); 3] = [("small", 2, 2), ("middle", 8, 5), ("largest", MAX_DEPTH, MAX_EXPONENT)];
 
 pub struct Row {
     operation: &'static str,

@@ -7,7 +7,7 @@ use crate::instance::Instance;
 use crate::outcome::Answer;
 use crate::tally::Kind;
 
-const MOST_WORDS: u32 = 11_541;
+const MOST_WORDS: u32 = kidlothe::MAX_CIRCUIT_WORDS as u32;
 const REFUSED: Answer = Answer::Refused(20);
 
 /// Arrays in bytes, with where each count stands.

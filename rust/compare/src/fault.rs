@@ -6,6 +6,7 @@ use crate::edit::Edit;
 use crate::instance::Instance;
 use crate::order;
 use crate::outcome::{of_plain, Answer};
+use kidlothe::{MAX_DEPTH, MAX_EXPONENT};
 
 pub struct Fault {
     pub number: u32,
@@ -53,11 +54,11 @@ fn head_edit(number: u32, instance: &Instance, draw: &mut Draw) -> Edit {
         1 => Edit::Cut(List::Circuit, draw.below(2)),
         2 => Edit::Set(List::Circuit, 0, unlisted(draw)),
         3 => {
-            let deeper = draw.at_least(17);
+            let deeper = draw.at_least(MAX_DEPTH as u32 + 1);
             Edit::Set(List::Circuit, 1, draw.pick(&[0, deeper]))
         }
         4 if draw.one_in(3) => Edit::Cut(List::Circuit, 2 + draw.below(depth)),
-        4 => Edit::Set(List::Circuit, 2 + draw.below(depth), draw.at_least(9)),
+        4 => Edit::Set(List::Circuit, 2 + draw.below(depth), draw.at_least(MAX_EXPONENT as u32 + 1)),
         _ if draw.one_in(2) => Edit::Cut(List::Circuit, 2 + depth + draw.below(length - 2 - depth)),
         _ => extension(List::Circuit, draw),
     }

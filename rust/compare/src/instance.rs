@@ -6,6 +6,7 @@ use crate::draw::Draw;
 use crate::outcome::{value_count, Answer};
 use crate::residues::value;
 use crate::tally::{Feature, Kind};
+use kidlothe::{MAX_CIRCUIT_WORDS, MAX_DEPTH, MAX_EXPONENT};
 
 pub const PRIMES: [u32; 4] = [13, 65_537, 2_147_483_647, 4_294_967_291];
 
@@ -126,7 +127,7 @@ impl Instance {
     pub fn features(&self) -> Vec<Feature> {
         let mut features = vec![Feature::Depth(self.prime, self.exponents.len() as u32)];
         features.extend(self.exponents.iter().map(|&k| Feature::Exponent(self.prime, k)));
-        if self.circuit.len() == 11_541 {
+        if self.circuit.len() == MAX_CIRCUIT_WORDS {
             features.push(Feature::LargestCircuit(self.prime));
         }
         features
@@ -137,10 +138,10 @@ fn draw_exponents(draw: &mut Draw, size: Size) -> Vec<u32> {
     let (depth, most) = match size {
         Size::Tiny => (1 + draw.below(3), 2),
         Size::Small => (1 + draw.below(4), 3),
-        Size::Deep => (1 + draw.below(16), 1),
-        Size::Wide => (1 + draw.below(2), 8),
-        Size::Any => (1 + draw.below(16), 8),
-        Size::Largest => return vec![8; 16],
+        Size::Deep => (1 + draw.below(MAX_DEPTH), 1),
+        Size::Wide => (1 + draw.below(2), MAX_EXPONENT),
+        Size::Any => (1 + draw.below(MAX_DEPTH), MAX_EXPONENT),
+        Size::Largest => return vec![MAX_EXPONENT as u32; MAX_DEPTH],
     };
     (0..depth).map(|_| draw.below(most + 1) as u32).collect()
 }

@@ -76,7 +76,7 @@ pub enum Feature {
     Depth(u32, u32),
     /// An accepted transcript of a circuit with a layer of this exponent.
     Exponent(u32, u32),
-    /// An accepted transcript of a circuit of 11,541 words.
+    /// An accepted transcript of the largest circuit.
     LargestCircuit(u32),
     /// A false output that was accepted by luck.
     FalseOutputAccepted,

@@ -4,6 +4,7 @@ use crate::call::Operation;
 use crate::instance::PRIMES;
 use crate::order::{order, pairs};
 use crate::tally::{Class, Feature, Kind, Tally};
+use kidlothe::{MAX_DEPTH, MAX_EXPONENT};
 
 /// The kinds of input that run through a whole transcript.
 const SESSIONS: [Kind; 3] = [Kind::Session, Kind::FalseOutput, Kind::FalseMessages];
@@ -65,8 +66,8 @@ fn features() -> Vec<Feature> {
     let mut features = vec![Feature::FalseOutputAccepted, Feature::SingleInputRefused];
     for prime in PRIMES {
         features.push(Feature::LargestCircuit(prime));
-        features.extend((1..=16).map(|depth| Feature::Depth(prime, depth)));
-        features.extend((0..=8).map(|k| Feature::Exponent(prime, k)));
+        features.extend((1..=MAX_DEPTH as u32).map(|depth| Feature::Depth(prime, depth)));
+        features.extend((0..=MAX_EXPONENT as u32).map(|k| Feature::Exponent(prime, k)));
     }
     features
 }

@@ -63,20 +63,29 @@ mod session;
 pub use refusal::Refusal;
 pub use session::{Progress, Session};
 
-/// The words of the longest legal circuit.
-pub const MAX_CIRCUIT_WORDS: usize = 11541;
+/// The layers of the deepest circuit.
+pub const MAX_DEPTH: usize = 12;
+
+/// The largest width exponent of a layer.
+pub const MAX_EXPONENT: usize = 8;
+
+/// The gates of the widest layer.
+const MAX_WIDTH: usize = 1 << MAX_EXPONENT;
+
+/// The words of the longest legal circuit, and the largest count of an array that is read.
+pub const MAX_CIRCUIT_WORDS: usize = 2 + MAX_DEPTH + 3 * (1 + (MAX_DEPTH - 1) * MAX_WIDTH);
 
 /// The gate and input values of the largest circuit: enough for every buffer of [`evaluate`].
-pub const MAX_VALUES: usize = 4097;
+pub const MAX_VALUES: usize = 1 + MAX_DEPTH * MAX_WIDTH;
 
 /// The coins of the largest circuit.
-pub const MAX_COINS: usize = 272;
+pub const MAX_COINS: usize = MAX_DEPTH * (2 * MAX_EXPONENT + 1);
 
 /// The message words of the largest circuit: enough for every buffer of [`prove`].
-pub const MAX_MESSAGE_WORDS: usize = 912;
+pub const MAX_MESSAGE_WORDS: usize = MAX_DEPTH * (7 * MAX_EXPONENT + 1);
 
 /// The words of the longest message: enough for every buffer of [`prove_one`].
-pub const MAX_ONE_MESSAGE: usize = 9;
+pub const MAX_ONE_MESSAGE: usize = MAX_EXPONENT + 1;
 
 /// An output, and the number of message words that were written for it.
 #[derive(Clone, Copy, Debug, PartialEq, Eq)]

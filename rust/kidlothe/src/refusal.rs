@@ -10,7 +10,7 @@ pub enum Refusal {
     HeaderShort = 1,
     /// The modulus is not one of the listed primes.
     PrimeUnlisted = 2,
-    /// The depth is not from 1 to 16.
+    /// The depth is not from 1 to [`MAX_DEPTH`](crate::MAX_DEPTH).
     DepthRange = 3,
     /// The circuit ends before its exponents, or one is above 8.
     ExponentRange = 4,
@@ -89,7 +89,7 @@ impl Refusal {
         match self {
             Refusal::HeaderShort => "the circuit has fewer than 2 words",
             Refusal::PrimeUnlisted => "the modulus is not a listed prime",
-            Refusal::DepthRange => "the depth is not from 1 to 16",
+            Refusal::DepthRange => "the depth is not from 1 to 12",
             Refusal::ExponentRange => "the circuit ends before its exponents, or one is above 8",
             Refusal::WordCount => "the circuit has not as many words as its exponents call for",
             Refusal::GateKind => "a gate's kind is unknown",

@@ -1,7 +1,7 @@
 //! The crate's limits are those of the largest circuit that the library takes.
 use kidlothe::{
-    evaluate, load, prove, prove_one, read, Refusal, MAX_CIRCUIT_WORDS, MAX_COINS, MAX_MESSAGE_WORDS, MAX_ONE_MESSAGE,
-    MAX_VALUES,
+    evaluate, load, prove, prove_one, read, Refusal, MAX_CIRCUIT_WORDS, MAX_COINS, MAX_DEPTH, MAX_EXPONENT, MAX_MESSAGE_WORDS,
+    MAX_ONE_MESSAGE, MAX_VALUES,
 };
 
 /// A circuit of so many layers that all have this width exponent, each gate an addition of two words.
@@ -13,16 +13,18 @@ fn circuit(depth: usize, exponent: usize) -> Vec<u32> {
     words
 }
 
-/// The largest circuit that Load takes, and its width exponent.
-fn largest() -> (Vec<u32>, usize) {
+/// The greatest depth and the greatest width exponent that Load takes.
+fn largest() -> (usize, usize) {
     let depth = (1..).find(|&depth| load(&circuit(depth + 1, 0)).is_err()).unwrap();
     let exponent = (0..).find(|&exponent| load(&circuit(1, exponent + 1)).is_err()).unwrap();
-    (circuit(depth, exponent), exponent)
+    (depth, exponent)
 }
 
 #[test]
 fn limits_are_the_largest_circuits() {
-    let (circuit, exponent) = largest();
+    let (depth, exponent) = largest();
+    assert_eq!((depth, exponent), (MAX_DEPTH, MAX_EXPONENT));
+    let circuit = circuit(depth, exponent);
     let input = vec![0; 1 << exponent];
     let (mut values, mut messages) = ([0; MAX_VALUES], [0; MAX_MESSAGE_WORDS]);
     assert_eq!(circuit.len(), MAX_CIRCUIT_WORDS);
@@ -30,6 +32,11 @@ fn limits_are_the_largest_circuits() {
     assert_eq!(evaluate(&circuit, &input, &mut values[1..]), Err(Refusal::BufferShort));
     assert_eq!(prove(&circuit, &input, &[0; MAX_COINS], &mut messages).map(|proof| proof.words), Ok(MAX_MESSAGE_WORDS));
     assert_eq!(prove_one(&circuit, &input, &[0; MAX_COINS - 1], &mut messages), Ok(MAX_ONE_MESSAGE));
+}
+
+#[test]
+fn a_refused_depth_names_the_limit() {
+    assert_eq!(Refusal::DepthRange.to_string(), format!("refused 3: the depth is not from 1 to {MAX_DEPTH}"));
 }
 
 #[test]
