@@ -1,7 +1,7 @@
 //! The crate's limits are those of the largest circuit that the library takes.
 use kidlothe::{
-    evaluate, load, prove, prove_one, read, Refusal, MAX_CIRCUIT_WORDS, MAX_COINS, MAX_DEPTH, MAX_EXPONENT, MAX_MESSAGE_WORDS,
-    MAX_ONE_MESSAGE, MAX_VALUES,
+    evaluate, load, prove, prove_one, read, Refusal, MAX_CIRCUIT_WORDS, MAX_COINS, MAX_DEPTH, MAX_EXPONENT,
+    MAX_MESSAGE_WORDS, MAX_ONE_MESSAGE, MAX_VALUES,
 };
 
 /// A circuit of so many layers that all have this width exponent, each gate an addition of two words.
