@@ -17,7 +17,7 @@ use layout::{GATE_WORDS, Gate, Kind};
 use refusal::Cause;
 
 // The gate and input words of the largest circuit.
-pub const MAX_VALUES: usize = 1 + layout::MAX_DEPTH * (1 << layout::MAX_EXPONENT);
+pub const MAX_VALUES: usize = layout::MAX_GATES + (1 << layout::MAX_EXPONENT);
 
 // What a kind does with the values of a gate's wires.
 pub fn kind_value(f: Field, kind: Kind, x: u32, y: u32) -> u32

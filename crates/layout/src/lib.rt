@@ -22,8 +22,11 @@ const HEADER: usize = 2;
 // The words of a gate.
 pub const GATE_WORDS: usize = 3;
 
-// The words of the longest legal list: one gate in layer 0, and as many as there can be in every other.
-pub const MAX_WORDS: usize = HEADER + MAX_DEPTH + GATE_WORDS * (1 + (MAX_DEPTH - 1) * (1 << MAX_EXPONENT));
+// The gates of the largest circuit: one in layer 0, and in every other as many as there can be.
+pub const MAX_GATES: usize = 1 + (MAX_DEPTH - 1) * (1 << MAX_EXPONENT);
+
+// The words of its list.
+pub const MAX_WORDS: usize = HEADER + MAX_DEPTH + GATE_WORDS * MAX_GATES;
 
 // What a gate does with the values of its wires. Its first word is the kind's number.
 #[derive(Clone, Copy, PartialEq, Eq, Debug)]
