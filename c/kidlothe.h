@@ -71,9 +71,9 @@ enum {
     KIDLOTHE_BYTES_UNFIT = 20     /* the bytes are not the arrays that were called for */
 };
 
-/* A circuit has at most so many layers, each with at most so large a width exponent, and these lengths are then enough
- * for it: the words of its list, which are also the most that an array of bytes may have, its gate and input values, its
- * coins, the words of all messages and of one. */
+/* The most layers and the largest width exponent of a circuit, and lengths that are then enough for every one: the
+ * words of its list, its gate and input values, its coins, the words of all its messages and of one, the longest line.
+ * kidlothe_read takes no array of more words than the longest list has. */
 enum {
     KIDLOTHE_MAX_DEPTH = 12,
     KIDLOTHE_MAX_EXPONENT = 8,

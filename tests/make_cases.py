@@ -5,8 +5,9 @@
     tests/make_cases.py --check     says which of them are not what the vectors give; the exit status is then 1
 
 The vectors are in tests/vectors, a case with its answer on each line (`read.py` there reads them): the files rNN.jsonl, each of the state after
-a change, come from an implementation that shares nothing with this repository; own.jsonl has what these leave out. No answer is computed here. A check is a case of the program `verdict` too, and an evaluation one of the program `evaluate`: the
-arguments are put into bytes, and the answer is the text that the program prints.
+a change, come from an implementation that shares nothing with this repository; own.jsonl has what these leave out. No answer is computed here.
+A check is a case of the program `verdict` too, and an evaluation one of the program `evaluate`: the arguments are put into bytes, and the answer
+is the text that the program prints.
 
 The form of a case stands at the top of crates/vectors/src/main.rt, that of a printed buffer in the crate cases.
 """

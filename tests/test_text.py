@@ -246,7 +246,7 @@ class RoundTrips(unittest.TestCase):
 
     def test_transcripts_are_told_apart_by_the_exponents(self):
         for _ in range(500):
-            exponents = [self.draw.randrange(9) for _ in range(self.draw.randrange(1, textform.MAX_DEPTH + 1))]
+            exponents = [self.draw.randrange(textform.MAX_EXPONENT + 1) for _ in range(self.draw.randrange(1, textform.MAX_DEPTH + 1))]
             words = [random_word(self.draw) for _ in range(1 + sum(7 * k + 1 for k in exponents))]
             lines = self.again("transcript", words, [13, len(exponents), *exponents]).splitlines()
             self.assertEqual([line.split()[0] for line in lines], ["claim"] + [w for k in exponents for w in 2 * k * ["sum"] + ["line"]])

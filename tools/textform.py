@@ -12,8 +12,8 @@ NAMES = ("circuit", "input", "coins", "transcript")
 # The kinds of gates by their numbers.
 KINDS = ("empty", "add", "mul")
 MAX_WORD = 2 ** 32 - 1
-# The most layers of a legal circuit, its largest width exponent, and the words of the longest, which are also the most of an array. A list
-# with a greater exponent is refused before its gates are counted; the others are for those who judge.
+# The most layers of a legal circuit, its largest width exponent, and the words of the longest list, which are also the most of an array. A list
+# with a greater exponent is refused before its gates are counted; the other two are for what `./job` says of 3 and 20, and for the test cases.
 MAX_DEPTH, MAX_EXPONENT = 12, 8
 MAX_COUNT = 2 + MAX_DEPTH + 3 * (1 + (MAX_DEPTH - 1) * 2 ** MAX_EXPONENT)
 NUMBERS_A_LINE = 8

@@ -22,7 +22,7 @@ const HEADER: usize = 2;
 // The words of a gate.
 pub const GATE_WORDS: usize = 3;
 
-// The gates of the largest circuit: one in layer 0, and in every other as many as there can be.
+// The gates of the largest circuit: one in layer 0, and in each layer after it as many as there can be.
 pub const MAX_GATES: usize = 1 + (MAX_DEPTH - 1) * (1 << MAX_EXPONENT);
 
 // The words of its list.

@@ -2,7 +2,8 @@
 use crate::circuits::{Shape, LARGEST_PRIME};
 use crate::operations::OPERATIONS;
 use crate::timing::{times, Times};
-use kidlothe::MAX_DEPTH;
+use kidlothe::{MAX_DEPTH, MAX_EXPONENT};
+use std::iter::once;
 
 /// The depth at which the width grows, and the exponent at which the depth grows.
 pub const DEPTH: usize = 4;
@@ -19,24 +20,20 @@ pub struct Growth {
     pub by_depth: Vec<Line>,
 }
 
-fn lines(places: &[usize], shape: fn(usize) -> Shape) -> Vec<Line> {
+fn lines(places: impl Iterator<Item = usize> + Clone, shape: fn(usize) -> Shape) -> Vec<Line> {
     OPERATIONS
         .iter()
         .map(|operation| Line {
             name: operation.name,
-            points: places.iter().map(|&place| (place, times(operation, shape(place)))).collect(),
+            points: places.clone().map(|place| (place, times(operation, shape(place)))).collect(),
         })
         .collect()
 }
 
 pub fn measured() -> Growth {
     Growth {
-        by_exponent: lines(&[0, 1, 2, 3, 4, 5, 6, 7, 8], |exponent| Shape {
-            prime: LARGEST_PRIME,
-            depth: DEPTH,
-            exponent,
-        }),
-        by_depth: lines(&[1, 2, 4, 6, 8, 10, MAX_DEPTH], |depth| Shape {
+        by_exponent: lines(0..=MAX_EXPONENT, |exponent| Shape { prime: LARGEST_PRIME, depth: DEPTH, exponent }),
+        by_depth: lines(once(1).chain((2..=MAX_DEPTH).step_by(2)), |depth| Shape {
             prime: LARGEST_PRIME,
             depth,
             exponent: EXPONENT,

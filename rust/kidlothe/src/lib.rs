@@ -84,7 +84,7 @@ pub const MAX_COINS: usize = MAX_DEPTH * (2 * MAX_EXPONENT + 1);
 /// The message words of the largest circuit: enough for every buffer of [`prove`].
 pub const MAX_MESSAGE_WORDS: usize = MAX_DEPTH * (7 * MAX_EXPONENT + 1);
 
-/// The words of the longest message: enough for every buffer of [`prove_one`].
+/// The words of the longest message, a line: enough for every buffer of [`prove_one`].
 pub const MAX_ONE_MESSAGE: usize = MAX_EXPONENT + 1;
 
 /// An output, and the number of message words that were written for it.

@@ -12,7 +12,7 @@ pub enum Refusal {
     PrimeUnlisted = 2,
     /// The depth is not from 1 to [`MAX_DEPTH`](crate::MAX_DEPTH).
     DepthRange = 3,
-    /// The circuit ends before its exponents, or one is above 8.
+    /// The circuit ends before its exponents, or one is above [`MAX_EXPONENT`](crate::MAX_EXPONENT).
     ExponentRange = 4,
     /// The circuit has not as many words as its exponents call for.
     WordCount = 5,

@@ -35,8 +35,9 @@ fn limits_are_the_largest_circuits() {
 }
 
 #[test]
-fn a_refused_depth_names_the_limit() {
+fn refusals_name_the_limits() {
     assert_eq!(Refusal::DepthRange.to_string(), format!("refused 3: the depth is not from 1 to {MAX_DEPTH}"));
+    assert!(Refusal::ExponentRange.to_string().ends_with(&format!("above {MAX_EXPONENT}")));
 }
 
 #[test]

@@ -1,5 +1,5 @@
 -- `Cut::at` meets its contract: the number of gates of an exponent within the limit is its power of two.
-use Rattle.std.proofs.Common.{rules, arith, ◌≤◌, ◌-◌, ◌∙◌}
+use Rattle.std.proofs.Common.{rules, arith, ◌≤◌, ◌∙◌}
 use Rattle.circuit.proofs.Sized.{width_of_lem}
 use Rattle.sums.proofs.wires.Cut.at.Goals as goal
 use Rattle.sums.proofs.wires.Cut.at.Goals.{then-next, else-next}
