@@ -1,17 +1,17 @@
--- The sizes of a legal circuit are within the limits.
+-- The sizes of a legal circuit are within the limits, and those of the largest are the limits: they follow from depth and exponents alone.
 -- Assumes nothing.
-use Prim.Native.Nat.{ℕ, ◌+◌, ◌*◌, ◌≤◌, ◌<◌}
-use mathlib.Core.Path.{subst}
-use mathlib.Core.List.{List, map}
+use Prim.Native.Nat.{ℕ, ◌+◌, ◌*◌, ◌^◌, ◌≤◌, ◌<◌}
+use mathlib.Core.Path.{◌≡◌, subst, ap, ap₂}
+use mathlib.Core.List.{List, ◌∷◌, map}
 use native.Mathlib.Nat.{mul-le-mul_left, mul-le-mul_right, le_trans}
 use native.Mathlib.Omega.{arith}
-use lib.ListN.{length}
+use lib.ListN.{length, get_or}
 use Rattle.lists.specs.Count.{sum}
 use Rattle.lists.proofs.Count.{sum_le, sum_const}
-use Rattle.circuit.specs.Limits.{max_depth, max_exponent}
-use Rattle.circuit.specs.Circuit.{exponents, word_count, value_count, coin_count, message_words, input_exponent}
+use Rattle.circuit.specs.Limits.{max_depth, max_exponent, max_width, max_gates}
+use Rattle.circuit.specs.Circuit.{exponents, output_exponent, gate_count, word_count, value_count, coin_count, message_words, input_exponent, input_count}
 use Rattle.circuit.specs.Sized.{LegalCircuit}
-use Rattle.circuit.specs.Theorems.{InLimits, LegalSizes}
+use Rattle.circuit.specs.Theorems.{InLimits, LegalSizes, LargestSizes}
 use Rattle.circuit.proofs.Sized.{one_output, width_le, count_few, deep, last_small}
 use Rattle.circuit.proofs.Loading.{legal_circuit}
 use Rattle.circuit.proofs.Layers.{all_below_lem}
@@ -42,3 +42,15 @@ module _ (c : List ℕ) (h : LegalCircuit c) where
 
 pub legal_sizes : LegalSizes
 legal_sizes c e = in_limits c (legal_circuit c e)
+
+pub largest_sizes : LargestSizes
+unfolding gate_count word_count value_count input_exponent coin_count message_words sum
+largest_sizes c d e =
+    let gates : gate_count (output_exponent c) (exponents c) ≡ max_gates = ap₂ gate_count (one_output c) e in
+    let inputs : input_count c ≡ max_width = ap₂ (λ (k : ℕ) (ks : List ℕ). 2 ^ get_or (k ∷ ks) (length ks) 0) (one_output c) e in
+    record {
+      words = omega (arith, d, gates);
+      values = omega (arith, gates, inputs);
+      coins = ap₂ (λ (k : ℕ) (ks : List ℕ). k + sum (map (λ k. 2 * k + 1) ks)) (one_output c) e;
+      messages = ap (λ (ks : List ℕ). sum (map (λ k. 7 * k + 1) ks)) e;
+    }

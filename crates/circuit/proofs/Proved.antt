@@ -2,7 +2,7 @@
 -- Assumes nothing.
 use Rattle.circuit.specs.Theorems.{Theorems}
 use Rattle.circuit.proofs.Layers.{legal_prime, values_are_residues, layer_sizes, last_layer, layer_by_layer, wires_below_next, output_layer}
-use Rattle.circuit.proofs.Largest.{legal_sizes}
+use Rattle.circuit.proofs.Largest.{legal_sizes, largest_sizes}
 
 pub proved : Theorems
 proved = record {
@@ -14,4 +14,5 @@ proved = record {
   wires_below = wires_below_next;
   output_layer = output_layer;
   legal_sizes = legal_sizes;
+  largest_sizes = largest_sizes;
 }

@@ -1,12 +1,12 @@
 -- What legality gives.
 -- Assumes nothing.
-use Rattle.std.specs.Prelude.{ℕ, suc, ◌^◌, ◌≤◌, ◌<◌, ◌≡◌, List, [], ◌∷◌, map, length}
+use Rattle.std.specs.Prelude.{ℕ, suc, ◌^◌, ◌≤◌, ◌<◌, ◌≡◌, List, [], ◌∷◌, map, length, replicate}
 use Rattle.lists.specs.Each.{All}
 use Rattle.primes.specs.Prime.{Prime}
 use Rattle.algebra.specs.Numbers.{words}
 use Rattle.circuit.specs.Gate.{gate_value}
-use Rattle.circuit.specs.Limits.{max_values, max_words, max_coins, max_message_words}
-use Rattle.circuit.specs.Circuit.{prime_of, depth, exponent_at, gates_at, word_count, value_count, coin_count, message_words}
+use Rattle.circuit.specs.Limits.{max_depth, max_exponent, max_values, max_words, max_coins, max_message_words}
+use Rattle.circuit.specs.Circuit.{prime_of, depth, exponents, exponent_at, gates_at, word_count, value_count, coin_count, message_words}
 use Rattle.circuit.specs.Legal.{load_answer, lists_cause}
 use Rattle.circuit.specs.Values.{layers, values_at, value}
 
@@ -50,6 +50,16 @@ pub record InLimits (c : List ℕ) : Type 0 where
 abbrev pub LegalSizes : Type 0
 LegalSizes = (c : List ℕ) → load_answer c ≡ 0 → InLimits c
 
+-- and no limit is larger than it must be: a circuit of as many layers as there can be, each as wide as it can be, has these sizes
+pub record AtLimits (c : List ℕ) : Type 0 where
+  pub words : word_count c ≡ max_words
+  pub values : value_count c ≡ max_values
+  pub coins : coin_count c ≡ max_coins
+  pub messages : message_words c ≡ max_message_words
+
+abbrev pub LargestSizes : Type 0
+LargestSizes = (c : List ℕ) → depth c ≡ max_depth → exponents c ≡ replicate max_depth max_exponent → AtLimits c
+
 -- all that this crate states; `proved` in `proofs/Proved` inhabits it
 pub record Theorems : Type 0 where
   pub legal_prime : LegalPrime
@@ -60,3 +70,4 @@ pub record Theorems : Type 0 where
   pub wires_below : WiresBelow
   pub output_layer : OutputLayer
   pub legal_sizes : LegalSizes
+  pub largest_sizes : LargestSizes
