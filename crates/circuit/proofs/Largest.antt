@@ -9,7 +9,17 @@ use lib.ListN.{length, get_or}
 use Rattle.lists.specs.Count.{sum}
 use Rattle.lists.proofs.Count.{sum_le, sum_const}
 use Rattle.circuit.specs.Limits.{max_depth, max_exponent, max_width, max_gates}
-use Rattle.circuit.specs.Circuit.{exponents, output_exponent, gate_count, word_count, value_count, coin_count, message_words, input_exponent, input_count}
+use Rattle.circuit.specs.Circuit.{
+  exponents,
+  output_exponent,
+  gate_count,
+  word_count,
+  value_count,
+  coin_count,
+  message_words,
+  input_exponent,
+  input_count,
+}
 use Rattle.circuit.specs.Sized.{LegalCircuit}
 use Rattle.circuit.specs.Theorems.{InLimits, LegalSizes, LargestSizes}
 use Rattle.circuit.proofs.Sized.{one_output, width_le, count_few, deep, last_small}
@@ -49,8 +59,8 @@ largest_sizes c d e =
     let gates : gate_count (output_exponent c) (exponents c) ≡ max_gates = ap₂ gate_count (one_output c) e in
     let inputs : input_count c ≡ max_width = ap₂ (λ (k : ℕ) (ks : List ℕ). 2 ^ get_or (k ∷ ks) (length ks) 0) (one_output c) e in
     record {
-      words = omega (arith, d, gates);
-      values = omega (arith, gates, inputs);
-      coins = ap₂ (λ (k : ℕ) (ks : List ℕ). k + sum (map (λ k. 2 * k + 1) ks)) (one_output c) e;
-      messages = ap (λ (ks : List ℕ). sum (map (λ k. 7 * k + 1) ks)) e;
+      most_words = omega (arith, d, gates);
+      most_values = omega (arith, gates, inputs);
+      most_coins = ap₂ (λ (k : ℕ) (ks : List ℕ). k + sum (map (λ k. 2 * k + 1) ks)) (one_output c) e;
+      most_messages = ap (λ (ks : List ℕ). sum (map (λ k. 7 * k + 1) ks)) e;
     }

@@ -52,10 +52,10 @@ LegalSizes = (c : List ℕ) → load_answer c ≡ 0 → InLimits c
 
 -- and no limit is larger than it must be: a circuit of as many layers as there can be, each as wide as it can be, has these sizes
 pub record AtLimits (c : List ℕ) : Type 0 where
-  pub words : word_count c ≡ max_words
-  pub values : value_count c ≡ max_values
-  pub coins : coin_count c ≡ max_coins
-  pub messages : message_words c ≡ max_message_words
+  pub most_words : word_count c ≡ max_words
+  pub most_values : value_count c ≡ max_values
+  pub most_coins : coin_count c ≡ max_coins
+  pub most_messages : message_words c ≡ max_message_words
 
 abbrev pub LargestSizes : Type 0
 LargestSizes = (c : List ℕ) → depth c ≡ max_depth → exponents c ≡ replicate max_depth max_exponent → AtLimits c
