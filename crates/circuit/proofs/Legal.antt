@@ -2,14 +2,14 @@
 -- Assumes nothing.
 use Prim.Native.Nat.{ℕ, zero, suc, ◌+◌, ◌-◌, ◌*◌, ◌≤◌, ◌<◌}
 use mathlib.Core.Path.{◌≡◌, refl, sym, ap, ◌∙◌}
-use mathlib.Core.Bool.{Bool, true, false, not, ◌&&◌, ◌||◌, false≢true}
+use mathlib.Core.Bool.{Bool, true, false, ◌&&◌, false≢true}
 use mathlib.Core.List.{List, [], ◌∷◌}
 use native.Mathlib.Nat.{add-zero, sub-zero, suc-sub-suc}
 use native.Mathlib.Omega.{arith}
-use lib.Dec.{ltb, leb, eqb}
+use lib.Dec.{ltb, leb}
 use lib.ListN.{length, get_or, take, drop}
 use lib.Seq.{drop-drop, get_or-drop, get_or-take, take-nil}
-use borrow.Author.Tests.{lt-ltb, le-ltb, lt-leb, le-leb, eq-eqb, ne_eqb, ltb-true}
+use borrow.Author.Tests.{lt-leb, le-leb, ltb-true}
 use Rattle.refusal.specs.Order.{need, first}
 use Rattle.refusal.proofs.Order.{need_none}
 use Rattle.circuit.specs.Gate.{Gate, gate, max_kind}
@@ -22,54 +22,15 @@ use Rattle.circuit.specs.Legal.{all_below, wires_good, gate_cause, gates_cause}
 pub below_told : (ws : List ℕ) {p q : ℕ} {b : Bool} → p ≡ q → b ≡ all_below p ws → all_below q ws ≡ b
 below_told ws e told = sym (ap (λ (n : ℕ). all_below n ws) e) ∙ sym told
 
--- A GATE, by its words; a wire that is bad is refused, whatever the other is
-refuses : (b : Bool) → need (b && false) 7 0 ≡ 7
-refuses true = refl
-refuses false = refl
-
+-- A GATE, by its words: its kind decides, then its wires
 module _ (next kind left right : ℕ) where
   pub gate_kind : max_kind < kind → gate_cause next (gate kind left right) ≡ 6
   unfolding gate_cause
   gate_kind h = simp (lt-leb kind max_kind h)
 
-  module _ (known : kind ≤ max_kind) where
-    pub gate_right : next ≤ right → gate_cause next (gate kind left right) ≡ 7
-    unfolding gate_cause wires_good
-    gate_right h = simp (le-leb kind max_kind known, le-ltb right next h) (refuses (ltb left next))
-
-    module _ (r : right < next) where
-      pub gate_order : right < left → gate_cause next (gate kind left right) ≡ 7
-      unfolding gate_cause wires_good
-      gate_order h = simp (le-leb kind max_kind known, lt-ltb right next r, lt-leb left right h) (refuses (ltb left next))
-
-      -- left is below too, where it is not above right
-      module _ (o : left ≤ right) where
-        below : ltb left next ≡ true
-        below = lt-ltb left next (omega arith)
-
-        pub gate_used : 0 < kind → gate_cause next (gate kind left right) ≡ 0
-        unfolding gate_cause wires_good
-        gate_used h =
-            let used : eqb kind 0 ≡ false = ne_eqb kind 0 (λ e. omega arith) in
-            simp (le-leb kind max_kind known, below, lt-ltb right next r, le-leb left right o, used)
-
-        pub gate_wired_empty : kind ≤ 0 → 0 < right → gate_cause next (gate kind left right) ≡ 7
-        unfolding gate_cause wires_good
-        gate_wired_empty h w =
-            let empty : eqb kind 0 ≡ true = eq-eqb kind 0 (omega arith) in
-            let wired : eqb right 0 ≡ false = ne_eqb right 0 (λ e. omega arith) in
-            simp (le-leb kind max_kind known, below, lt-ltb right next r, le-leb left right o, empty, wired) (refuses (eqb left 0))
-
-        pub gate_empty : right ≤ 0 → gate_cause next (gate kind left right) ≡ 0
-        unfolding gate_cause wires_good
-        gate_empty w =
-            let lz : eqb left 0 ≡ true = eq-eqb left 0 (omega arith) in
-            let rz : eqb right 0 ≡ true = eq-eqb right 0 (omega arith) in
-            simp (le-leb kind max_kind known, below, lt-ltb right next r, le-leb left right o, lz, rz) (either (not (eqb kind 0)))
-          where
-            either : (b : Bool) → need (b || true) 7 0 ≡ 0
-            either true = refl
-            either false = refl
+  pub gate_known : kind ≤ max_kind → {good : Bool} → good ≡ wires_good next (gate kind left right) → gate_cause next (gate kind left right) ≡ need good 7 0
+  unfolding gate_cause
+  gate_known known told = rw (le-leb kind max_kind known, told) refl
 
 -- GATES, from gate i on
 gates_cons : (n at : ℕ) (c : List ℕ)

@@ -12,21 +12,22 @@ pub record Gate : Type 0 where
 abbrev pub gate : ℕ → ℕ → ℕ → Gate
 gate kind left right = record { kind = kind; left = left; right = right }
 
--- "Kind 1 adds, kind 2 multiplies": the kinds that do something with two values
+-- "Kind 1 adds, kind 2 multiplies, kind 3 is left minus right": the kinds that do something with two values
 abbrev pub kinds : List ℕ
-kinds = 1 ∷ 2 ∷ []
+kinds = 1 ∷ 2 ∷ 3 ∷ []
 
 -- they are numbered from 1 on, so the last number is how many they are
 abbrev pub max_kind : ℕ
 max_kind = length kinds
 
 module _ {C : Type 0} (N : Numbers C) where
-  -- "Kind 0 is empty: value 0 .. Kind 1 adds, kind 2 multiplies"; no other kind is legal
+  -- "Kind 0 is empty: value 0 .. Kind 1 adds, kind 2 multiplies, kind 3 is left minus right, modulo p"; no other kind is legal
   abbrev pub operate : ℕ → C → C → C
   operate zero x y = N.𝟘
   operate (suc zero) x y = N.add x y
   operate (suc (suc zero)) x y = N.mul x y
-  operate (suc (suc (suc kind))) x y = N.𝟘
+  operate (suc (suc (suc zero))) x y = N.sub x y
+  operate (suc (suc (suc (suc kind)))) x y = N.𝟘
 
   -- "Left and right name gates of the next layer", whose values are `next`
   unfoldable pub gate_value : List C → Gate → C

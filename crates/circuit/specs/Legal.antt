@@ -18,13 +18,14 @@ depth_good c = leb 1 (depth c) && leb (depth c) max_depth
 abbrev pub exponents_good : List ℕ → Bool
 exponents_good c = eqb (length (exponents c)) (depth c) && all_below (max_exponent + 1) (exponents c)
 
--- the wires of a gate above a layer of `next` gates; 7 "a gate's left or right is outside the next layer, left is above right, or the gate is
--- empty and has a nonzero wire"
+-- the wires of a gate above a layer of `next` gates; 7 "a gate's left or right is outside the next layer, left is above right and the kind is not 3,
+-- or the gate is empty and has a nonzero wire"
 unfoldable pub wires_good : ℕ → Gate → Bool
 wires_good next g =
-    ltb g.left next && (ltb g.right next && (leb g.left g.right && (not (eqb g.kind 0) || (eqb g.left 0 && eqb g.right 0))))
+    ltb g.left next
+    && (ltb g.right next && ((eqb g.kind 3 || leb g.left g.right) && (not (eqb g.kind 0) || (eqb g.left 0 && eqb g.right 0))))
 
--- 6 "a gate's kind is above 2", then 7: "inside a gate 6 before 7"
+-- 6 "a gate's kind is above 3", then 7: "inside a gate 6 before 7"
 unfoldable pub gate_cause : ℕ → Gate → ℕ
 gate_cause next g = need (leb g.kind max_kind) 6 (need (wires_good next g) 7 0)
 

@@ -5,7 +5,7 @@ use Rattle.refusal.specs.declared.Cause.{Cause}
 use Rattle.refusal.specs.declared.Cause.TheVariants.{GateKind}
 use Rattle.circuit.specs.Gate.{Gate, gate, max_kind}
 use Rattle.layout.specs.declared.Kind.{Kind}
-use Rattle.layout.specs.declared.Kind.TheVariants.{Empty, Add, Multiply}
+use Rattle.layout.specs.declared.Kind.TheVariants.{Empty, Add, Multiply, Subtract}
 use Rattle.layout.specs.declared.Gate as held
 
 -- a kind's number
@@ -13,6 +13,7 @@ abbrev pub kind_number : Kind → ℕ
 kind_number Empty = 0
 kind_number Add = 1
 kind_number Multiply = 2
+kind_number Subtract = 3
 
 -- the kind with a number, or refusal 6 for a number above the last kind's
 abbrev pub KindOf : ℕ → Result Kind Cause → Type 0

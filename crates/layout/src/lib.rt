@@ -34,6 +34,7 @@ pub enum Kind {
     Empty = 0,
     Add = 1,
     Multiply = 2,
+    Subtract = 3,
 }
 
 impl TryFrom<u32> for Kind {
@@ -46,6 +47,7 @@ impl TryFrom<u32> for Kind {
             0 => Ok(Kind::Empty),
             1 => Ok(Kind::Add),
             2 => Ok(Kind::Multiply),
+            3 => Ok(Kind::Subtract),
             _ => Err(Cause::GateKind),
         }
     }

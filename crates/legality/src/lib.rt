@@ -4,7 +4,7 @@
 ghost use Rattle.std.specs.Prelude.{◌≡◌, map};
 ghost use Rattle.refusal.specs.Number.{cause_of};
 ghost use Rattle.circuit.specs.Circuit.{exponents, gate_layers, input_count};
-ghost use Rattle.circuit.specs.Legal.{all_below, gate_cause, gates_cause, layers_cause, load_answer, lists_cause};
+ghost use Rattle.circuit.specs.Legal.{all_below, wires_good, gate_cause, gates_cause, layers_cause, load_answer, lists_cause};
 ghost use Rattle.circuit.specs.Sized.{LegalCircuit, Sized};
 ghost use Rattle.layout.specs.Gate.{gate_of, gate_in};
 
@@ -18,15 +18,31 @@ pub fn all_below(words: &[u32], p: u32) -> bool
     words.iter().all(|&word| word < p)
 }
 
-// One gate above a layer of `next` gates. A left wire that is not above the right one is inside that layer too, and 0 where the right one is.
+// Whether a gate's wires are good above a layer of `next` gates: each stays before an end, which the kind chooses. A left wire that is not above
+// the right one is inside that layer too, and 0 where the right one is. An end is chosen and not jumped to, since no processor can guess a kind.
+#[tactic(auto, unfolding(circuit::specs::Legal::wires_good))]
+fn wires_good(gate: Gate, next: usize) -> bool
+    ensures { result ≡ wires_good next (gate_of gate) }
+{
+    let left_end = if gate.kind == Kind::Subtract as u32 {
+        next
+    } else {
+        gate.right as usize + 1
+    };
+    let right_end = if gate.kind == Kind::Empty as u32 {
+        next.min(1)
+    } else {
+        next
+    };
+    (gate.left as usize) < left_end && (gate.right as usize) < right_end
+}
+
+// One gate above a layer of `next` gates.
 fn check_gate(gate: Gate, next: usize) -> Result<(), Cause>
     ensures { cause_of result ≡ gate_cause next (gate_of gate) }
 {
-    let kind = Kind::try_from(gate.kind)?;
-    if next <= gate.right as usize || gate.right < gate.left {
-        return Err(Cause::GateWires);
-    }
-    if kind == Kind::Empty && 0 < gate.right {
+    Kind::try_from(gate.kind)?;
+    if !wires_good(gate, next) {
         return Err(Cause::GateWires);
     }
     Ok(())

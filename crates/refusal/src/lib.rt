@@ -18,7 +18,7 @@ pub enum Cause {
     WordCount = 5,
     // A gate's kind is unknown.
     GateKind = 6,
-    // A gate's wires are outside the next layer or out of order, or an empty gate has one.
+    // A gate's wires are outside the next layer, out of order where it does not subtract, or an empty gate has one.
     GateWires = 7,
     // The input count is not the input layer's.
     InputCount = 8,

@@ -50,9 +50,9 @@ none_of [] kind h = refl
 none_of (κ ∷ ks) kind h = ap₂ ◌||◌ (ne_eqb kind κ (λ e. h.0 (sym e))) (none_of ks kind h.1)
 
 module _ {C : Type 0} {N : Numbers C} (R : Ring N) where
-  open N use {𝟘, 𝟙, add as ◌⊕◌, mul as ◌⊗◌}
+  open N use {𝟘, 𝟙, add as ◌⊕◌, sub as ◌⊖◌, mul as ◌⊗◌}
 
-  infixl 60 ◌⊕◌
+  infixl 60 ◌⊕◌ ◌⊖◌
   infixl 70 ◌⊗◌
   -- THE SUMMAND, gate by gate: a gate has one kind, so of a sum over different kinds its own is what is left
   one_kind : (f : ℕ → C) (kind : ℕ) (w : C) (a : ℕ) (ks : List ℕ) → Distinct ks
@@ -97,10 +97,10 @@ module _ {C : Type 0} {N : Numbers C} (R : Ring N) where
 
   pub formula : Formula N
   unfolding combined sum_from
-  formula gs point u v x y = plain (wiring N 1 gs point u v) (wiring N 2 gs point u v) x y
+  formula gs point u v x y = plain (wiring N 1 gs point u v) (wiring N 2 gs point u v) (wiring N 3 gs point u v) x y
     where
-      plain : (A M x y : C) → A ⊗ (x ⊕ y) ⊕ (M ⊗ (x ⊗ y) ⊕ 𝟘) ≡ A ⊗ (x ⊕ y) ⊕ M ⊗ x ⊗ y
-      plain A M x y = simp ring
+      plain : (A M S x y : C) → A ⊗ (x ⊕ y) ⊕ (M ⊗ (x ⊗ y) ⊕ (S ⊗ (x ⊖ y) ⊕ 𝟘)) ≡ A ⊗ (x ⊕ y) ⊕ M ⊗ x ⊗ y ⊕ S ⊗ (x ⊖ y)
+      plain A M S x y = simp ring
 
   -- the weights of a gate's wires, split where the fixed coordinates end instead of where u ends
   split_wires : (k : ℕ) (g : Gate) (xs bs : List C) (c o : C) → length xs + length bs ≡ 2 * k

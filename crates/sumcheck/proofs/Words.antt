@@ -12,7 +12,7 @@ use Rattle.algebra.specs.Numbers.{Numbers, words}
 use Rattle.algebra.specs.Hom.{Hom}
 use Rattle.algebra.specs.Residue.{residue, residues}
 use Rattle.algebra.specs.Polynomial.{value_at, constant, X, polynomials}
-use Rattle.algebra.proofs.Hom.{hom_add, hom_mul}
+use Rattle.algebra.proofs.Hom.{hom_add, hom_sub, hom_mul}
 use Rattle.algebra.proofs.Polynomial.{hom_value, value_below}
 use Rattle.algebra.proofs.Residue.{residues_ring, residue_hom, residue_injective}
 use Rattle.multilinear.specs.Extension.{extension}
@@ -127,7 +127,9 @@ formula_on_words p pos gs point u v x y =
     residue_injective p pos _ _ (combined_below p pos gs point u v x y) (mod-lt _ pos)
     (hom_combined H gs point u v refl refl
     ∙ formula (residues_ring p pos) gs (map ι point) (map ι u) (map ι v) (ι x) (ι y)
-    ∙ sym (hom_add H (hom_mul H (hom_wiring H _ gs point u v) (hom_add H refl refl)) (hom_mul H (hom_mul H (hom_wiring H _ gs point u v) refl) refl)))
+    ∙ sym (hom_add H
+    (hom_add H (hom_mul H (hom_wiring H _ gs point u v) (hom_add H refl refl)) (hom_mul H (hom_mul H (hom_wiring H _ gs point u v) refl) refl))
+    (hom_mul H (hom_wiring H _ gs point u v) (hom_sub H refl refl))))
   where
     ι : ℕ → Fin p
     ι = residue p pos

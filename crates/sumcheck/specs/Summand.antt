@@ -14,8 +14,8 @@ module _ {C : Type 0} (N : Numbers C) where
   abbrev pub gate_weight : List C → List C → List C → ℕ → ℕ → ℕ → C
   gate_weight point u v a b c = weight N a point ⊗ weight N b u ⊗ weight N c v
 
-  -- "A is the sum of weight(a, point) × weight(b, u) × weight(c, v) over the add gates", "M is the same sum over the multiply gates": the sum
-  -- over the gates of a kind
+  -- "A is the sum of weight(a, point) × weight(b, u) × weight(c, v) over the add gates", "M is the same sum over the multiply gates", "S over the
+  -- subtract gates": the sum over the gates of a kind
   unfoldable pub wiring : ℕ → List Gate → List C → List C → List C → C
   wiring kind gs point u v = sum_from N (λ a g. cond (eqb g.kind kind) (gate_weight point u v a g.left g.right) 𝟘) 0 gs
 
@@ -23,11 +23,11 @@ module _ {C : Type 0} (N : Numbers C) where
   unfoldable pub combined : List Gate → List C → List C → List C → C → C → C
   combined gs point u v x y = sum_from N (λ i kind. wiring kind gs point u v ⊗ operate N kind x y) 0 kinds
 
-  -- "A × (V(u) + V(v)) + M × V(u) × V(v)": so it is over a ring, and on words
+  -- "A × (V(u) + V(v)) + M × V(u) × V(v) + S × (V(u) - V(v))": so it is over a ring, and on words
   abbrev pub Formula : Type 0
   Formula =
       (gs : List Gate) (point u v : List C) (x y : C)
-      → combined gs point u v x y ≡ wiring 1 gs point u v ⊗ (x ⊕ y) ⊕ wiring 2 gs point u v ⊗ x ⊗ y
+      → combined gs point u v x y ≡ wiring 1 gs point u v ⊗ (x ⊕ y) ⊕ wiring 2 gs point u v ⊗ x ⊗ y ⊕ wiring 3 gs point u v ⊗ (x ⊖ y)
 
   -- "The summand at (u, v)": V extends the layer's values vs
   unfoldable pub summand : List Gate → List C → List C → List C → List C → C

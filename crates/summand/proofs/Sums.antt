@@ -95,19 +95,21 @@ module _ (p : ℕ) (gs : List Gate) (point u v : List ℕ) where
       whole : ℕ → ℕ
       whole kind = wiring (words p) kind gs point u v
 
--- FROM THE SUMS, kind by kind: the two kinds' parts are the sum over all kinds
+-- FROM THE SUMS, kind by kind: the kinds' parts are the sum over all kinds
 module _ (p x y : ℕ) where
   abbrev pub given : ℕ → ℕ → ℕ
   given sum kind = (words p).mul sum (operate (words p) kind x y)
 
-  pub each_added : (sums : List ℕ) → length sums ≡ max_kind → (words p).add (given (get_or sums 0 0) 1) (given (get_or sums 1 0) 2) ≡ by_kinds (words p) sums x y
+  pub each_added : (sums : List ℕ) → length sums ≡ max_kind
+      → (words p).add (given (get_or sums 0 0) 1) ((words p).add (given (get_or sums 1 0) 2) (given (get_or sums 2 0) 3)) ≡ by_kinds (words p) sums x y
   unfolding sum_from
   each_added [] e = absurd (omega arith)
   each_added (a ∷ []) e = absurd (omega arith)
-  each_added (a ∷ b ∷ c ∷ l) e = absurd (omega arith)
-  each_added (a ∷ b ∷ []) e =
-      let m : ℕ = b * operate (words p) 2 x y in
-      ap ((words p).add (given a 1)) (sym (ap (λ (n : ℕ). n % p) (add-zero (m % p)) ∙ mod-mod m p))
+  each_added (a ∷ b ∷ []) e = absurd (omega arith)
+  each_added (a ∷ b ∷ c ∷ d ∷ l) e = absurd (omega arith)
+  each_added (a ∷ b ∷ c ∷ []) e =
+      let m : ℕ = c * operate (words p) 3 x y in
+      ap (λ (n : ℕ). (words p).add (given a 1) ((words p).add (given b 2) n)) (sym (ap (λ (n : ℕ). n % p) (add-zero (m % p)) ∙ mod-mod m p))
 
 -- the summand, from all of them
 pub from_sums : (N : Numbers ℕ) (gs : List Gate) (point u v : List ℕ) (x y : ℕ) → by_kinds N (wirings N gs point u v) x y ≡ combined N gs point u v x y

@@ -12,8 +12,8 @@ use extension::MAX_COORDINATES;
 use field::Field;
 use layout::{Gate, Kind};
 
-// How many kinds of gates do something with two values: Add, then Multiply.
-const KINDS: usize = 2;
+// How many kinds of gates do something with two values: Add, Multiply, then Subtract.
+const KINDS: usize = 3;
 
 // t times a difference, without a product where there is none: rows end in words that stand for no coordinate, and those are alike.
 fn scaled(f: Field, t: u32, difference: u32) -> u32
@@ -55,6 +55,7 @@ fn place(kind: u32) -> Option<usize>
     match Kind::try_from(kind) {
         Ok(Kind::Add) => Some(0),
         Ok(Kind::Multiply) => Some(1),
+        Ok(Kind::Subtract) => Some(2),
         _ => None,
     }
 }
@@ -89,11 +90,12 @@ fn by_kind(f: Field, sum: u32, kind: Kind, x: u32, y: u32) -> u32
 fn by_kinds(f: Field, sums: [u32; KINDS], x: u32, y: u32) -> u32
     ensures { result ≡ by_kinds (numbers f) sums x y }
 {
-    let [added, multiplied] = sums;
-    f.add(
-        by_kind(f, added, Kind::Add, x, y),
+    let [added, multiplied, subtracted] = sums;
+    let others = f.add(
         by_kind(f, multiplied, Kind::Multiply, x, y),
-    )
+        by_kind(f, subtracted, Kind::Subtract, x, y),
+    );
+    f.add(by_kind(f, added, Kind::Add, x, y), others)
 }
 
 // The summand at the two points, the first k coordinates of each row, where the next layer's extension is x at the first and y at the second.
