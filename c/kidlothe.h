@@ -9,8 +9,8 @@
  *
  * CIRCUIT. The list p, D, k_1 to k_D, then three words for each gate (kind, left, right) of the layers 0 to D-1 in
  * order. Layer 0 is the output, one gate; layer i has 2^k_i gates; layer D is the input, 2^k_D words. Kind 0 is an
- * empty gate: its value is 0 and its wires are 0 0. Kind 1 adds and kind 2 multiplies, modulo p. Left and right name
- * gates of the next layer, from 0 on, left at most right.
+ * empty gate: its value is 0 and its wires are 0 0. Kind 1 adds, kind 2 multiplies and kind 3 is left minus right,
+ * modulo p. Left and right name gates of the next layer, from 0 on; left is at most right, but for kind 3.
  *
  * COINS AND MESSAGES. For each layer from 1 to D, with k its exponent, come 2k sum messages of three words, one for
  * each coordinate of the layer's two points u and v, u's first, and then one line message of k + 1 words. The words
@@ -54,8 +54,8 @@ enum {
     KIDLOTHE_DEPTH_RANGE = 3,     /* D is not from 1 to KIDLOTHE_MAX_DEPTH */
     KIDLOTHE_EXPONENT_RANGE = 4,  /* the circuit ends before its D exponents, or one is above KIDLOTHE_MAX_EXPONENT */
     KIDLOTHE_WORD_COUNT = 5,      /* the circuit has not as many words as its exponents call for */
-    KIDLOTHE_GATE_KIND = 6,       /* a gate's kind is above 2 */
-    KIDLOTHE_GATE_WIRES = 7,      /* a wire outside the next layer, left above right, or a wire at an empty gate */
+    KIDLOTHE_GATE_KIND = 6,       /* a gate's kind is above 3 */
+    KIDLOTHE_GATE_WIRES = 7,      /* a wire outside the next layer, out of order but for kind 3, or at an empty gate */
     KIDLOTHE_INPUT_COUNT = 8,     /* the input has not 2^k_D words */
     KIDLOTHE_INPUT_WORD = 9,      /* an input word is not below p */
     KIDLOTHE_BUFFER_SHORT = 10,   /* a lent buffer is too short */

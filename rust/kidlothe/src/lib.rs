@@ -10,8 +10,8 @@
 //!
 //! A circuit is the list p, D, k_1 to k_D, then three words for each gate (kind, left, right) of the layers 0 to D-1 in
 //! order. Layer 0 is the output, one gate; layer i has 2^k_i gates; layer D is the input, 2^k_D words. Kind 0 is an
-//! empty gate: its value is 0 and its wires are 0 0. Kind 1 adds and kind 2 multiplies, modulo p. Left and right name
-//! gates of the next layer, from 0 on, left at most right.
+//! empty gate: its value is 0 and its wires are 0 0. Kind 1 adds, kind 2 multiplies and kind 3 is left minus right,
+//! modulo p. Left and right name gates of the next layer, from 0 on; left is at most right, but for kind 3.
 //!
 //! For each layer from 1 to D, with k its exponent, come 2k sum messages of three words, one for each coordinate of the
 //! layer's two points u and v, u's first, and then one line message of k + 1 words. The words are coefficients, the

@@ -18,7 +18,7 @@ pub enum Refusal {
     WordCount = 5,
     /// A gate's kind is unknown.
     GateKind = 6,
-    /// A wire is outside the next layer or out of order, or an empty gate has one.
+    /// A wire is outside the next layer, out of order where the gate does not subtract, or an empty gate has one.
     GateWires = 7,
     /// The input has not as many words as the input layer.
     InputCount = 8,
@@ -93,7 +93,7 @@ impl Refusal {
             Refusal::ExponentRange => "the circuit ends before its exponents, or one is above 8",
             Refusal::WordCount => "the circuit has not as many words as its exponents call for",
             Refusal::GateKind => "a gate's kind is unknown",
-            Refusal::GateWires => "a gate's wires are outside the next layer or out of order, or an empty gate has one",
+            Refusal::GateWires => "a gate's wires are outside the next layer, out of order where it does not subtract, or an empty gate has one",
             Refusal::InputCount => "the input has not as many words as the input layer",
             Refusal::InputWord => "an input word is not below p",
             Refusal::BufferShort => "the buffer is too short",
