@@ -1,10 +1,8 @@
 //! The circuit list: its legality, its layers and the places of the walk.
 
 use crate::field::Field;
+use crate::gate::{self, Gate};
 use crate::refusal::{self, require};
-
-pub(crate) const ADD: u32 = 1;
-pub(crate) const MULTIPLY: u32 = 2;
 
 const MOST_LAYERS: usize = 12;
 const MOST_EXPONENT: u32 = 8;
@@ -17,9 +15,6 @@ pub(crate) const MOST_VALUES: usize = 1 + MOST_LAYERS * MOST_WIDTH;
 
 /// The words of the largest circuit's list: prime, depth, exponents, and three for each gate.
 pub(crate) const MOST_LIST_WORDS: usize = 2 + MOST_LAYERS + 3 * (MOST_VALUES - MOST_WIDTH);
-
-/// Kind, left wire, right wire.
-pub(crate) type Gate = [u32; 3];
 
 /// A legal circuit, over the words of its list.
 pub(crate) struct Circuit<'a> {
@@ -63,13 +58,7 @@ impl<'a> Circuit<'a> {
 
     fn check_gates(&self, layer: usize) -> Result<(), u32> {
         let width = self.width(layer + 1) as u32;
-        for &[kind, left, right] in self.gates(layer) {
-            require(kind <= MULTIPLY, refusal::KIND)?;
-            require(left <= right && right < width, refusal::WIRE)?;
-            // Left is not above right, so right alone tells whether a wire is nonzero.
-            require(kind != 0 || right == 0, refusal::WIRE)?;
-        }
-        Ok(())
+        self.gates(layer).iter().try_for_each(|&gate| gate::check(gate, width))
     }
 
     /// A legal circuit with a legal input for it.

@@ -1,6 +1,7 @@
 //! The values of all layers.
 
-use crate::circuit::{Circuit, ADD, MOST_VALUES, MULTIPLY};
+use crate::circuit::{Circuit, MOST_VALUES};
+use crate::gate;
 use crate::refusal::{self, require};
 
 /// Answers the output; the buffer then begins with the values of layers 0 to D.
@@ -22,12 +23,7 @@ pub(crate) fn fill(circuit: &Circuit, input: &[u32], values: &mut [u32; MOST_VAL
         let (above, below) = values.split_at_mut(circuit.start(layer + 1));
         let row = &mut above[circuit.start(layer)..];
         for (value, &[kind, left, right]) in row.iter_mut().zip(circuit.gates(layer)) {
-            let (left, right) = (below[left as usize], below[right as usize]);
-            *value = match kind {
-                ADD => field.add(left, right),
-                MULTIPLY => field.mul(left, right),
-                _ => 0,
-            };
+            *value = gate::value(field, kind, below[left as usize], below[right as usize]);
         }
     }
 }

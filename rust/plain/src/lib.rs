@@ -8,6 +8,7 @@ mod circuit;
 mod evaluation;
 mod extension;
 mod field;
+mod gate;
 mod prover;
 mod refusal;
 mod verifier;

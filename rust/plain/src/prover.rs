@@ -1,9 +1,10 @@
 //! The honest prover. Each message is made from the values and the coins before it alone.
 
-use crate::circuit::{Circuit, Place, ADD, MOST_VALUES};
+use crate::circuit::{Circuit, Place, MOST_VALUES};
 use crate::evaluation::fill;
 use crate::extension::{along_line, ends, extension, fold, point_on, weights, Table};
 use crate::field::Field;
+use crate::gate::{self, EMPTY};
 use crate::refusal::{self, require};
 
 /// Writes all messages and answers the output and the words written.
@@ -62,9 +63,10 @@ fn left_round(circuit: &Circuit, values: &[u32], prefix: &[u32], place: Place) -
     let mut sum = RoundSum::new(field, fold(field, list, fixed), open);
     for (&standing, &[kind, left, right]) in standing.iter().zip(circuit.gates(place.layer - 1)) {
         let left = left as usize;
-        if kind != 0 {
+        if kind != EMPTY {
             let weight = field.mul(standing, left_weights[left >> open]);
-            sum.add(kind, weight, left, list[right as usize]);
+            let at_v = list[right as usize];
+            sum.add(weight, left, |at_u| gate::value(field, kind, at_u, at_v));
         }
     }
     sum.coefficients()
@@ -84,9 +86,9 @@ fn right_round(circuit: &Circuit, values: &[u32], prefix: &[u32], place: Place) 
     let mut sum = RoundSum::new(field, fold(field, list, fixed), open);
     for (&standing, &[kind, left, right]) in standing.iter().zip(circuit.gates(place.layer - 1)) {
         let right = right as usize;
-        if kind != 0 {
+        if kind != EMPTY {
             let wires = field.mul(left_weights[left as usize], right_weights[right >> open]);
-            sum.add(kind, field.mul(standing, wires), right, at_u);
+            sum.add(field.mul(standing, wires), right, |at_v| gate::value(field, kind, at_u, at_v));
         }
     }
     sum.coefficients()
@@ -98,7 +100,7 @@ struct RoundSum {
     /// The layer's values with the coordinates before this round's fixed.
     folded: Table,
     half: usize,
-    /// Constant and slope of the sum of the lines, for bit 0 and for bit 1.
+    /// The values at 0 and at 1 of the sum of the lines, for bit 0 and for bit 1.
     lines: [[u32; 2]; 2],
 }
 
@@ -108,26 +110,21 @@ impl RoundSum {
         RoundSum { field, folded, half: 1 << (open - 1), lines: [[0; 2]; 2] }
     }
 
-    /// Adds a gate; `other` is the value at the end that this round leaves alone.
-    fn add(&mut self, kind: u32, weight: u32, wire: usize, other: u32) {
+    /// Adds a gate; `value` is the gate's, as a function of the value at the end that this round is about.
+    fn add(&mut self, weight: u32, wire: usize, value: impl Fn(u32) -> u32) {
         let field = self.field;
         let index = wire & (self.half - 1);
-        let constant = self.folded[index];
-        let slope = field.sub(self.folded[index + self.half], constant);
-        let (constant, slope) = if kind == ADD {
-            (field.add(constant, other), slope)
-        } else {
-            (field.mul(constant, other), field.mul(slope, other))
-        };
-        let line = &mut self.lines[usize::from(wire & self.half != 0)];
-        line[0] = field.add(line[0], field.mul(weight, constant));
-        line[1] = field.add(line[1], field.mul(weight, slope));
+        let [at_zero, at_one] = &mut self.lines[usize::from(wire & self.half != 0)];
+        // The gate's value is a line too, so its values at 0 and at 1 determine it.
+        *at_zero = field.add(*at_zero, field.mul(weight, value(self.folded[index])));
+        *at_one = field.add(*at_one, field.mul(weight, value(self.folded[index + self.half])));
     }
 
     fn coefficients(&self) -> [u32; 3] {
         let field = self.field;
-        let [[constant, slope], [constant_of_x, slope_of_x]] = self.lines;
-        let linear = field.add(field.sub(slope, constant), constant_of_x);
-        [constant, linear, field.sub(slope_of_x, slope)]
+        let [line, line_of_x] = self.lines;
+        let slopes = [line, line_of_x].map(|[at_zero, at_one]| field.sub(at_one, at_zero));
+        let linear = field.add(field.sub(slopes[0], line[0]), line_of_x[0]);
+        [line[0], linear, field.sub(slopes[1], slopes[0])]
     }
 }

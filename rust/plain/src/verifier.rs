@@ -1,8 +1,9 @@
 //! The verifier: the whole check, and the session that is stepped through message by message.
 
-use crate::circuit::{Circuit, Gate, Place, ADD, MULTIPLY};
+use crate::circuit::{Circuit, Place};
 use crate::extension::{ends, extension, point_on, weight};
 use crate::field::Field;
+use crate::gate::{self, Gate, EMPTY, OPERATIONS};
 use crate::refusal::{self, require};
 
 /// The record of a session.
@@ -144,21 +145,20 @@ fn summand(circuit: &Circuit, coins: &[u32], layer: usize, at_u: u32, at_v: u32)
     let field = circuit.field;
     let point = point_on(circuit, coins, layer - 1);
     let (u, v) = ends(circuit, coins, layer);
-    let (adds, multiplies) = gate_sums(field, circuit.gates(layer - 1), point.coordinates(), u, v);
-    field.add(field.mul(adds, field.add(at_u, at_v)), field.mul(multiplies, field.mul(at_u, at_v)))
+    let sums = gate_sums(field, circuit.gates(layer - 1), point.coordinates(), u, v);
+    let terms = OPERATIONS.map(|kind| field.mul(sums[kind as usize], gate::value(field, kind, at_u, at_v)));
+    terms.into_iter().fold(0, |sum, term| field.add(sum, term))
 }
 
-/// A and M: the weights of the add gates and of the multiply gates, summed.
-fn gate_sums(field: Field, gates: &[Gate], point: &[u32], u: &[u32], v: &[u32]) -> (u32, u32) {
-    let (mut adds, mut multiplies) = (0, 0);
+/// A, M and S: the weights of the gates of each kind, summed, at the kind's place. Empty gates have none.
+fn gate_sums(field: Field, gates: &[Gate], point: &[u32], u: &[u32], v: &[u32]) -> [u32; 1 + OPERATIONS.len()] {
+    let mut sums = [0; 1 + OPERATIONS.len()];
     for (index, &[kind, left, right]) in gates.iter().enumerate() {
-        let sum = match kind {
-            ADD => &mut adds,
-            MULTIPLY => &mut multiplies,
-            _ => continue,
-        };
-        let wires = field.mul(weight(field, left as usize, u), weight(field, right as usize, v));
-        *sum = field.add(*sum, field.mul(weight(field, index, point), wires));
+        if kind != EMPTY {
+            let wires = field.mul(weight(field, left as usize, u), weight(field, right as usize, v));
+            let sum = &mut sums[kind as usize];
+            *sum = field.add(*sum, field.mul(weight(field, index, point), wires));
+        }
     }
-    (adds, multiplies)
+    sums
 }

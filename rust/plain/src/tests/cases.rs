@@ -1,11 +1,12 @@
-//! The cases C1 to C12.
+//! The cases C1 to C21.
 
 use super::{figures, CIRCUIT, COINS, INPUT, MESSAGES, SENTINEL};
 use crate::{check, evaluate, load, open, prove, prove_one, step, Progress};
 
-/// Name, output, coins, messages and answer of a case on the worked circuit.
+/// Name, output, coins, messages and answer of a case.
 type Case = (&'static str, u32, [u32; 3], [u32; 8], Result<(), u32>);
 
+/// The cases on the worked circuit.
 const CHECKS: [Case; 9] = [
     ("C1", 2, COINS, MESSAGES, Ok(())),
     ("C2", 2, COINS, [2, 8, 4, 0, 5, 12, 11, 4], Err(16)),
@@ -18,12 +19,49 @@ const CHECKS: [Case; 9] = [
     ("C12", 2, COINS, [15, 8, 3, 0, 5, 12, 11, 4], Err(15)),
 ];
 
+/// Names of three cases on a difference; its circuit, output and messages; and the output that the second case refuses.
+type Difference = ([&'static str; 3], [u32; 6], u32, [u32; 8], u32);
+
+const DIFFERENCES: [Difference; 3] = [
+    (["C13", "C14", "C15"], [13, 1, 1, 3, 0, 1], 11, [11, 4, 11, 0, 2, 6, 11, 4], 2),
+    (["C16", "C17", "C18"], [13, 1, 1, 3, 1, 1], 0, [0, 11, 2, 0, 6, 5, 11, 4], 10),
+    (["C19", "C20", "C21"], [13, 1, 1, 3, 1, 0], 2, [0, 0, 2, 6, 12, 8, 11, 4], 11),
+];
+
+/// The cases whose messages are those of an honest prover.
+const HONEST: [&str; 4] = ["C1", "C13", "C16", "C19"];
+
+/// The messages with another line at their end.
+fn ending(mut messages: [u32; 8], line: [u32; 2]) -> [u32; 8] {
+    messages[6..].copy_from_slice(&line);
+    messages
+}
+
+/// The cases of a difference: accepted, with a false output, and with a line that is right at 0 alone or at 1 alone.
+fn on_difference(([honest, output, line], circuit, value, messages, wrong): Difference) -> [([u32; 6], Case); 4] {
+    let cases = [
+        (honest, value, COINS, messages, Ok(())),
+        (output, wrong, COINS, messages, Err(16)),
+        (line, value, COINS, ending(messages, [11, 5]), Err(17)),
+        (line, value, COINS, ending(messages, [12, 3]), Err(17)),
+    ];
+    cases.map(|case| (circuit, case))
+}
+
+/// All these cases, each with its circuit.
+fn cases() -> impl Iterator<Item = ([u32; 6], Case)> {
+    CHECKS.into_iter().map(|case| (CIRCUIT, case)).chain(DIFFERENCES.into_iter().flat_map(on_difference))
+}
+
 #[test]
-fn worked_transcript_is_written_at_the_front() {
-    let mut buffer = [SENTINEL; 10];
-    assert_eq!(prove(&CIRCUIT, &INPUT, &COINS, &mut buffer), Ok((2, 8)));
-    assert_eq!(buffer[..8], MESSAGES);
-    assert_eq!(buffer[8..], [SENTINEL; 2]);
+fn worked_transcripts_are_written_at_the_front() {
+    for name in HONEST {
+        let (circuit, (_, output, coins, messages, _)) = cases().find(|(_, case)| case.0 == name).unwrap();
+        let mut buffer = [SENTINEL; 10];
+        assert_eq!(prove(&circuit, &INPUT, &coins, &mut buffer), Ok((output, 8)), "{name}");
+        assert_eq!(buffer[..8], messages, "{name}");
+        assert_eq!(buffer[8..], [SENTINEL; 2], "{name}");
+    }
 }
 
 #[test]
@@ -38,18 +76,18 @@ fn single_messages_are_those_of_the_worked_transcript() {
 
 #[test]
 fn whole_checks_answer_as_the_cases_say() {
-    for (name, output, coins, messages, answer) in CHECKS {
-        assert_eq!(check(&CIRCUIT, &INPUT, output, &coins, &messages), answer, "{name}");
+    for (circuit, (name, output, coins, messages, answer)) in cases() {
+        assert_eq!(check(&circuit, &INPUT, output, &coins, &messages), answer, "{name}");
     }
 }
 
 #[test]
 fn sessions_end_as_the_whole_checks() {
-    for (name, output, coins, messages, answer) in CHECKS {
-        let mut session = open(&CIRCUIT, &INPUT, output, &coins).unwrap();
+    for (circuit, (name, output, coins, messages, answer)) in cases() {
+        let mut session = open(&circuit, &INPUT, output, &coins).unwrap();
         let mut progress = Ok(Progress::GoOn(0));
         for (round, message) in messages.chunks(3).enumerate() {
-            progress = step(&CIRCUIT, &INPUT, &coins, &mut session, message);
+            progress = step(&circuit, &INPUT, &coins, &mut session, message);
             if progress != Ok(Progress::GoOn(coins[round])) {
                 break;
             }
@@ -103,4 +141,12 @@ fn c10_an_empty_gate_gives_zero() {
 fn c11_left_is_not_above_right() {
     assert_eq!(load(&[13, 1, 1, 2, 1, 0]), Err(7));
     assert_eq!(load(&CIRCUIT), Ok(()));
+}
+
+#[test]
+fn a_line_moved_as_a_whole_is_refused_by_the_input_alone() {
+    // The difference of its ends stays the same.
+    for ([name, ..], circuit, output, messages, _) in DIFFERENCES {
+        assert_eq!(check(&circuit, &INPUT, output, &COINS, &ending(messages, [12, 4])), Err(18), "{name}");
+    }
 }

@@ -57,12 +57,42 @@ fn exponent_8_and_9() {
 
 #[test]
 fn gates_are_tried_one_by_one() {
-    assert_eq!(load(&[13, 1, 1, 3, 0, 2]), Err(6));
+    assert_eq!(load(&[13, 1, 1, 4, 0, 2]), Err(6));
     assert_eq!(load(&[13, 1, 1, 2, 0, 2]), Err(7));
     assert_eq!(load(&[13, 1, 1, 0, 0, 1]), Err(7));
     assert_eq!(load(&[13, 1, 1, 0, 1, 1]), Err(7));
-    assert_eq!(load(&[13, 2, 0, 0, 2, 0, 1, 3, 0, 0]), Err(7));
-    assert_eq!(load(&[13, 2, 0, 0, 3, 0, 1, 2, 0, 1]), Err(6));
+    assert_eq!(load(&[13, 2, 0, 0, 2, 0, 1, 4, 0, 0]), Err(7));
+    assert_eq!(load(&[13, 2, 0, 0, 4, 0, 1, 2, 0, 1]), Err(6));
+}
+
+#[test]
+fn each_kind_has_its_own_wires() {
+    let (legal, kind, wire) = (Ok(()), Err(6), Err(7));
+    let wires = [[0, 0], [0, 1], [1, 0], [1, 1], [0, 2], [2, 0], [u32::MAX, 0]];
+    for (of_kind, answers) in [
+        (0, [legal, wire, wire, wire, wire, wire, wire]),
+        (1, [legal, legal, wire, legal, wire, wire, wire]),
+        (2, [legal, legal, wire, legal, wire, wire, wire]),
+        (3, [legal, legal, legal, legal, wire, wire, wire]),
+        (4, [kind; 7]),
+        (u32::MAX, [kind; 7]),
+    ] {
+        for ([left, right], answer) in wires.into_iter().zip(answers) {
+            assert_eq!(load(&[13, 1, 1, of_kind, left, right]), answer, "{of_kind} {left} {right}");
+        }
+    }
+}
+
+#[test]
+fn a_difference_is_left_minus_right() {
+    for prime in [13, 65_537, 2_147_483_647, 4_294_967_291] {
+        let difference = |left, right, input: [u32; 2]| evaluate(&[prime, 1, 1, 3, left, right], &input, &mut [0; 3]);
+        assert_eq!(difference(0, 1, [5, 3]), Ok(2));
+        assert_eq!(difference(1, 0, [5, 3]), Ok(prime - 2));
+        assert_eq!(difference(0, 1, [0, prime - 1]), Ok(1));
+        assert_eq!(difference(1, 0, [0, prime - 1]), Ok(prime - 1));
+        assert_eq!(difference(1, 1, [5, prime - 1]), Ok(0));
+    }
 }
 
 #[test]

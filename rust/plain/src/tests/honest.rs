@@ -31,13 +31,21 @@ impl Draw {
         let mut width = 1;
         for next in exponents.iter().map(|&k| 1 << k) {
             for _ in 0..width {
-                let right = self.below(next);
-                let gate = [self.below(3), self.below(right + 1), right];
-                words.extend(if gate[0] == 0 { [0; 3] } else { gate });
+                words.extend(self.gate(next));
             }
             width = next;
         }
         words
+    }
+
+    /// A gate over a layer of the width.
+    fn gate(&mut self, width: u32) -> [u32; 3] {
+        let (kind, one, other) = (self.below(4), self.below(width), self.below(width));
+        match kind {
+            0 => [0; 3],
+            3 => [kind, one, other],
+            _ => [kind, one.min(other), one.max(other)],
+        }
     }
 }
 
@@ -93,7 +101,8 @@ fn summand(gate: &[u32], values: &[u32], (u, v): (&[i64], &[i64])) -> i64 {
     let value = match gate[0] {
         0 => 0,
         1 => ends.0 + ends.1,
-        _ => ends.0 * ends.1,
+        2 => ends.0 * ends.1,
+        _ => ends.0 - ends.1,
     };
     weight(gate[1] as usize, u) * weight(gate[2] as usize, v) % 13 * value % 13
 }
