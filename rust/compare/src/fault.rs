@@ -3,6 +3,7 @@
 use crate::call::{Call, List, Operation};
 use crate::draw::Draw;
 use crate::edit::Edit;
+use crate::gates::UNKNOWN_KIND;
 use crate::instance::Instance;
 use crate::order;
 use crate::outcome::{of_plain, Answer};
@@ -83,36 +84,23 @@ fn extension(list: List, draw: &mut Draw) -> Edit {
 }
 
 fn gate_fault(number: u32, instance: &Instance, draw: &mut Draw) -> Fault {
-    let head = 2 + instance.exponents.len();
-    let gates = (instance.circuit.len() - head) / 3;
-    let index = draw.below(gates);
-    let start = head + 3 * index;
-    let (place, word) = if number == 6 { (start, draw.at_least(3)) } else { bad_wire(instance, index, start, draw) };
+    let index = draw.below(instance.gates().len());
+    let start = instance.gate_start(index);
+    let (place, word) =
+        if number == 6 { (start, draw.at_least(UNKNOWN_KIND)) } else { bad_wire(instance, index, start, draw) };
     Fault { number, edit: Edit::Set(List::Circuit, place, word), index }
 }
 
-/// A wire outside the next layer, a left wire above the right one, or a nonzero wire of an empty gate.
+/// A wire outside the next layer, a left wire above the right one of a gate that does not subtract, or a nonzero wire of an empty gate.
 fn bad_wire(instance: &Instance, gate: usize, start: usize, draw: &mut Draw) -> (usize, u32) {
-    let width = next_width(&instance.exponents, gate);
+    let width = instance.next_width(gate);
     let (kind, right) = (instance.circuit[start], instance.circuit[start + 2]);
     match draw.below(3) {
-        0 => (start + 1, right + 1),
+        0 if kind != 3 => (start + 1, right + 1),
         1 if kind == 0 && width > 1 => (start + 2, 1 + draw.below(width - 1) as u32),
         2 => (start + 1, draw.at_least(width as u32)),
         _ => (start + 2, draw.at_least(width as u32)),
     }
-}
-
-/// The width of the layer that the gate's wires lead to.
-fn next_width(exponents: &[u32], gate: usize) -> usize {
-    let mut passed = 1;
-    for &k in exponents {
-        if gate < passed {
-            return 1 << k;
-        }
-        passed += 1 << k;
-    }
-    unreachable!("the gate is not in the circuit")
 }
 
 /// Faults of the input, the coins and the number of message words.

@@ -123,9 +123,31 @@ impl Instance {
         self.places.iter().map(|place| place.length).sum()
     }
 
+    pub fn gates(&self) -> &[[u32; 3]] {
+        self.circuit[self.gate_start(0)..].as_chunks().0
+    }
+
+    /// Where a gate's words begin in the circuit list.
+    pub fn gate_start(&self, gate: usize) -> usize {
+        2 + self.exponents.len() + 3 * gate
+    }
+
+    /// The width of the layer that the gate's wires lead to.
+    pub fn next_width(&self, gate: usize) -> usize {
+        let mut passed = 1;
+        for &k in &self.exponents {
+            if gate < passed {
+                return 1 << k;
+            }
+            passed += 1 << k;
+        }
+        unreachable!("the gate is not in the circuit")
+    }
+
     /// What an accepted transcript of this instance has met.
     pub fn features(&self) -> Vec<Feature> {
         let mut features = vec![Feature::Depth(self.prime, self.exponents.len() as u32)];
+        features.extend(self.gates().iter().map(|&[kind, left, right]| Feature::Accepted(kind, left.cmp(&right))));
         features.extend(self.exponents.iter().map(|&k| Feature::Exponent(self.prime, k)));
         if self.circuit.len() == MAX_CIRCUIT_WORDS {
             features.push(Feature::LargestCircuit(self.prime));
@@ -152,14 +174,23 @@ fn draw_circuit(draw: &mut Draw, prime: u32, exponents: &[u32]) -> Vec<u32> {
     let mut width = 1;
     for next in exponents.iter().map(|&k| 1 << k) {
         for _ in 0..width {
-            let right = draw.below(next);
-            let left = if draw.one_in(6) { right } else { draw.below(right + 1) };
-            let kind = draw.pick(&[0, 1, 1, 2, 2, 2]);
-            words.extend(if kind == 0 { [0; 3] } else { [kind, left as u32, right as u32] });
+            words.extend(draw_gate(draw, next));
         }
         width = next;
     }
     words
+}
+
+/// A gate above a layer of so many. Where it subtracts, its wires are drawn without order.
+fn draw_gate(draw: &mut Draw, next: usize) -> [u32; 3] {
+    let right = draw.below(next);
+    let left = if draw.one_in(6) { right } else { draw.below(right + 1) };
+    let (left, right) = (left as u32, right as u32);
+    match draw.pick(&[0, 1, 1, 2, 2, 2, 3, 3]) {
+        0 => [0; 3],
+        3 if draw.one_in(2) => [3, right, left],
+        kind => [kind, left, right],
+    }
 }
 
 fn draw_coins(draw: &mut Draw, prime: u32, count: usize) -> Vec<u32> {

@@ -67,7 +67,7 @@ fn balance(arena: &mut Arena, prime: u32, claim: u32, message: &mut [u32]) {
     }
 }
 
-/// The line run through from its other end: the summand doesn't tell the two apart.
+/// The line run through from its other end: where no gate subtracts, the summand doesn't tell the two apart.
 fn turn_around(prime: u32, message: &mut Vec<u32>) {
     // f(1 - t), built up by Horner's rule from the highest coefficient.
     let mut turned = vec![0; message.len()];

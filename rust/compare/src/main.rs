@@ -8,6 +8,7 @@ mod damage;
 mod draw;
 mod edit;
 mod fault;
+mod gates;
 mod instance;
 mod lying;
 mod options;

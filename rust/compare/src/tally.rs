@@ -1,5 +1,6 @@
 //! How often each operation met each kind of input and gave each answer.
 
+use std::cmp::Ordering;
 use std::collections::{BTreeMap, BTreeSet};
 
 use crate::call::Operation;
@@ -21,6 +22,7 @@ pub enum Kind {
     Buffer,
     Record,
     Bytes,
+    Gate,
 }
 
 impl Kind {
@@ -39,6 +41,7 @@ impl Kind {
             Kind::Buffer => "buffer length",
             Kind::Record => "record forged",
             Kind::Bytes => "bytes damaged",
+            Kind::Gate => "gate exchanged",
         }
     }
 }
@@ -69,15 +72,19 @@ impl Class {
     }
 }
 
-/// Something that a run must have met, beside the answers. The first figure is the prime.
+/// Something that a run must have met, beside the answers.
 #[derive(Clone, Copy, Debug, PartialEq, Eq, PartialOrd, Ord)]
 pub enum Feature {
-    /// An accepted transcript of a circuit so deep.
+    /// An accepted transcript, over this prime, of a circuit so deep.
     Depth(u32, u32),
-    /// An accepted transcript of a circuit with a layer of this exponent.
+    /// An accepted transcript, over this prime, of a circuit with a layer of this exponent.
     Exponent(u32, u32),
-    /// An accepted transcript of the largest circuit.
+    /// An accepted transcript of the largest circuit over this prime.
     LargestCircuit(u32),
+    /// An accepted transcript of a circuit with a gate of this kind, its left wire so beside its right one.
+    Accepted(u32, Ordering),
+    /// A gate of this kind put in another's place, its wires so. All unknown kinds count as one.
+    Gate(u32, Ordering),
     /// A false output that was accepted by luck.
     FalseOutputAccepted,
     /// An 18 of a circuit with one input word.

@@ -3,7 +3,7 @@
 use crate::arena::Arena;
 use crate::instance::{Instance, Size};
 use crate::tally::{Kind, Tally};
-use crate::{buffers, bytes, damage, lying, pairs, records, valid};
+use crate::{buffers, bytes, damage, gates, lying, pairs, records, valid};
 
 /// A unit has at least this many inputs.
 pub const INPUTS: u64 = 1_000;
@@ -44,6 +44,7 @@ fn one_instance(arena: &mut Arena, size: Size) {
         lying::transcript(arena, &instance);
         damage::same_remainder(arena, &instance);
         buffers::any(arena, &instance);
+        gates::any(arena, &instance);
     }
     for _ in 0..16 / share {
         damage::any(arena, &instance);

@@ -1,10 +1,12 @@
 //! What a run must have met; a comparison that never came to it proves nothing about it.
 
 use crate::call::Operation;
+use crate::gates::UNKNOWN_KIND;
 use crate::instance::PRIMES;
 use crate::order::{order, pairs};
 use crate::tally::{Class, Feature, Kind, Tally};
 use kidlothe::{MAX_DEPTH, MAX_EXPONENT};
+use std::cmp::Ordering::{Equal, Greater, Less};
 
 /// The kinds of input that run through a whole transcript.
 const SESSIONS: [Kind; 3] = [Kind::Session, Kind::FalseOutput, Kind::FalseMessages];
@@ -57,13 +59,20 @@ fn kinds(operation: Operation) -> Vec<Kind> {
             kinds.push(Kind::Record);
         }
         Operation::Read => kinds.extend([Kind::Buffer, Kind::Bytes]),
-        Operation::Load => {}
+        Operation::Load => kinds.push(Kind::Gate),
     }
     kinds
 }
 
 fn features() -> Vec<Feature> {
-    let mut features = vec![Feature::FalseOutputAccepted, Feature::SingleInputRefused];
+    let mut features = vec![Feature::FalseOutputAccepted, Feature::SingleInputRefused, Feature::Accepted(0, Equal)];
+    for kind in 1..=3 {
+        features.extend([Less, Equal].map(|order| Feature::Accepted(kind, order)));
+    }
+    features.push(Feature::Accepted(3, Greater));
+    for kind in 0..=UNKNOWN_KIND {
+        features.extend([Less, Equal, Greater].map(|order| Feature::Gate(kind, order)));
+    }
     for prime in PRIMES {
         features.push(Feature::LargestCircuit(prime));
         features.extend((1..=MAX_DEPTH as u32).map(|depth| Feature::Depth(prime, depth)));
