@@ -13,7 +13,8 @@ import tempfile
 import unittest
 
 ROOT = pathlib.Path(__file__).resolve().parent.parent
-WORKED, INVOICE, EXPECTED = ROOT / "examples" / "worked", ROOT / "examples" / "invoice", ROOT / "tests" / "expected"
+WORKED, INVOICE, SCALE = ROOT / "examples" / "worked", ROOT / "examples" / "invoice", ROOT / "examples" / "scale"
+EXPECTED = ROOT / "tests" / "expected"
 LARGE_PRIME = 4294967291
 INVOICE_COINS = 24
 
@@ -25,8 +26,9 @@ REFUSED = [
     ("words 13 0", None, None, 3, "from 1 to 12"),
     ("prime 13\nexponents 9\nlayer 0\nmul 0 1", None, None, 4, "above 8"),
     ("words 13 1 1 2 0", None, None, 5, "as many words as its exponents call for"),
-    ("words 13 1 1 3 0 1", None, None, 6, "kind"),
+    ("words 13 1 1 4 0 1", None, None, 6, "kind"),
     ("prime 13\nexponents 1\nlayer 0\nmul 1 0", None, None, 7, "wire"),
+    ("prime 13\nexponents 1\nlayer 0\nsub 2 0", None, None, 7, "wire"),
     (None, "3 5 7", None, 8, "input has not as many words"),
     (None, "3 13", None, 9, "word of the input is not below the prime"),
     (None, None, "4 6", 11, "coins are not as many"),
@@ -101,15 +103,22 @@ class Job(unittest.TestCase):
         self.assertEqual((ran.stderr, ran.returncode), ("", 0))
         self.assertEqual(ran.stdout, (EXPECTED / "job-worked.txt").read_text())
 
+    def with_given_coins(self, example, output, lucky):
+        """An example's job on its own coins; a false output would be accepted on at most `lucky` of every p coin lists."""
+        ran = job(example / "circuit.txt", example / "input.txt", "--coins", example / "coins.txt")
+        self.assertEqual((ran.stderr, ran.returncode), ("", 0))
+        self.assertIn(f"Output, by the program evaluate: {output} (modulo {LARGE_PRIME})\n", ran.stdout)
+        self.assertEqual(block(ran.stdout, "Transcript"), (EXPECTED / f"{example.name}-transcript.txt").read_text())
+        self.assertIn(f"accepted.\nThe output {output} is released.\n", ran.stdout)
+        self.assertIn(f"at most {lucky} of every {LARGE_PRIME} coin lists", ran.stdout)
+
     def test_invoice_with_given_coins(self):
         words = numbers_in(INVOICE / "input.txt")
-        total = sum(price * quantity for price, quantity in zip(words[::2], words[1::2]))
-        ran = job(INVOICE / "circuit.txt", INVOICE / "input.txt", "--coins", INVOICE / "coins.txt")
-        self.assertEqual((ran.stderr, ran.returncode), ("", 0))
-        self.assertIn(f"Output, by the program evaluate: {total} (modulo {LARGE_PRIME})\n", ran.stdout)
-        self.assertEqual(block(ran.stdout, "Transcript"), (EXPECTED / "invoice-transcript.txt").read_text())
-        self.assertIn(f"accepted.\nThe output {total} is released.\n", ran.stdout)
-        self.assertIn(f"at most 50 of every {LARGE_PRIME} coin lists", ran.stdout)
+        self.with_given_coins(INVOICE, sum(price * quantity for price, quantity in zip(words[::2], words[1::2])), 50)
+
+    def test_scale_with_given_coins(self):
+        words = numbers_in(SCALE / "input.txt")
+        self.with_given_coins(SCALE, sum((shown - true) ** 2 for true, shown in zip(words[:8], words[8:])), 65)
 
     def test_drawn_coins(self):
         drawn = []

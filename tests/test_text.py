@@ -50,7 +50,8 @@ MALFORMED = [
     ("circuit", b"prime 13\nexponents 1\nlayer 0\nmul 0\n", 4, "'mul' with numbers after it: 1"),
     ("circuit", b"prime 13\nexponents 1\nlayer 0\nadd 0 1 1\n", 4, "'add' with numbers after it: 3"),
     ("circuit", b"prime 13\nexponents 1\nlayer 0\nempty 0 0\n", 4, "'empty' with numbers after it: 2"),
-    ("circuit", b"prime 13\nexponents 1\nlayer 0\nsub 0 1\n", 4, "'sub'"),
+    ("circuit", b"prime 13\nexponents 1\nlayer 0\nsub 0\n", 4, "'sub' with numbers after it: 1"),
+    ("circuit", b"prime 13\nexponents 1\nlayer 0\ndiv 0 1\n", 4, "'div'"),
     ("circuit", b"prime 13\nexponents 1\nlayer 0\nmul 0 -1\n", 4, "'-1'"),
     ("circuit", b"prime 13\nexponents 1\nlayer 0\nmul 0 1\nlayer 1\n", 5, "'layer'"),
     ("circuit", b"prime 13\nexponents 1\nlayer 0\nmul 0 1\nprime 13\n", 5, "'prime'"),
@@ -101,11 +102,12 @@ PASSED_ON = [
     ("circuit", b"prime 13\nexponents 4294967295 1\nlayer 0\nempty\nlayer 1\n", [13, 2, 2 ** 32 - 1, 1, 0, 0, 0]),
     ("circuit", b"prime 13\nexponents 1\nlayer 0\nmul 1 0\n", [13, 1, 1, 2, 1, 0]),
     ("circuit", b"prime 13\nexponents 1\nlayer 0\nadd 7 4294967295\n", [13, 1, 1, 1, 7, 2 ** 32 - 1]),
+    ("circuit", b"prime 13\nexponents 1\nlayer 0\nsub 1 0\n", [13, 1, 1, 3, 1, 0]),
     ("circuit", b"prime 13\nexponents" + 13 * b" 0" + b"\n" + b"".join(b"layer %d\nempty\n" % i for i in range(13)),
      [13, 13] + 13 * [0] + 39 * [0]),
     ("circuit", b"words", []),
     ("circuit", b"words 13\n", [13]),
-    ("circuit", b"words 13 1\n# more\nwords\nwords 1 3 0 1", [13, 1, 1, 3, 0, 1]),
+    ("circuit", b"words 13 1\n# more\nwords\nwords 1 4 0 1", [13, 1, 1, 4, 0, 1]),
     ("circuit", b"\n\t prime\t13 # p\r\nexponents 1#k\r\nlayer 0\r\nmul 0 1", [13, 1, 1, 2, 0, 1]),
     ("input", b"", []),
     ("input", b"# \xc3\xa9\n", []),
@@ -156,7 +158,8 @@ def random_circuit(draw):
     words = [random_word(draw), len(exponents), *exponents]
     for k in [0] + exponents[:-1]:
         for _ in range(2 ** k):
-            words += draw.choice([[0, 0, 0], [1, random_word(draw), random_word(draw)], [2, random_word(draw), random_word(draw)]])
+            kind = draw.randrange(len(textform.KINDS))
+            words += [kind, random_word(draw), random_word(draw)] if kind else [0, 0, 0]
     return words
 
 
@@ -230,7 +233,7 @@ class RoundTrips(unittest.TestCase):
             self.assertTrue(self.again("circuit", words, []).startswith("prime "), words)
 
     def test_words_that_are_no_circuit_are_shown_raw(self):
-        for words in ([], [13], [13, 0], [13, 2, 1], [13, 1, 1], [13, 1, 1, 2, 0], [13, 1, 1, 2, 0, 1, 0], [13, 1, 1, 3, 0, 1],
+        for words in ([], [13], [13, 0], [13, 2, 1], [13, 1, 1], [13, 1, 1, 2, 0], [13, 1, 1, 2, 0, 1, 0], [13, 1, 1, 4, 0, 1],
                       [13, 1, 1, 0, 0, 1], [13, 2, 9, 1, 2, 0, 1], [13, 1, 1, 2, 0, 1, 2, 0, 1], [13, 2 ** 32 - 1, 1]):
             self.assertTrue(self.again("circuit", words, []).startswith("words"), words)
 

@@ -10,7 +10,7 @@ import struct
 # The arrays of a program's input, in their order.
 NAMES = ("circuit", "input", "coins", "transcript")
 # The kinds of gates by their numbers.
-KINDS = ("empty", "add", "mul")
+KINDS = ("empty", "add", "mul", "sub")
 MAX_WORD = 2 ** 32 - 1
 # The most layers of a legal circuit, its largest width exponent, and the words of the longest list, which are also the most of an array. A list
 # with a greater exponent is refused before its gates are counted; the other two are for what `./job` says of 3 and 20, and for the test cases.
@@ -83,7 +83,7 @@ def numbers_of(line, word, least, most=None):
 
 def gate_words(line):
     if line.parts[0] not in KINDS:
-        raise Malformed(line.place, found(line), "a gate ('empty', 'add L R' or 'mul L R') or a layer ('layer N')")
+        raise Malformed(line.place, found(line), "a gate ('empty', 'add L R', 'mul L R' or 'sub L R') or a layer ('layer N')")
     kind = KINDS.index(line.parts[0])
     wires = numbers_of(line, KINDS[kind], 2, 2) if kind else numbers_of(line, KINDS[kind], 0, 0) + [0, 0]
     return [kind] + wires
