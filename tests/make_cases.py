@@ -22,7 +22,7 @@ import read  # noqa: E402
 import textform  # noqa: E402
 
 # The last change that has landed, by the number of its vectors.
-CHANGE = 1
+CHANGE = 2
 # The numbers of the operations in crates/vectors/src/main.rt.
 OPERATIONS = {"load": 1, "evaluate": 2, "read": 3, "prove": 4, "prove_one": 5, "check": 6, "open": 7, "step": 8, "transcript": 9,
               "verdict": 10, "output": 11, "count_whole": 12, "count_single": 13, "count_rule": 14}
