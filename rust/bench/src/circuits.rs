@@ -1,4 +1,5 @@
 //! Jobs to time: random legal circuits of a shape, with input, coins and the honest transcript.
+use std::fmt;
 
 /// The moduli.
 pub const PRIMES: [u32; 4] = [13, 65_537, 2_147_483_647, 4_294_967_291];
@@ -6,12 +7,38 @@ pub const PRIMES: [u32; 4] = [13, 65_537, 2_147_483_647, 4_294_967_291];
 /// The modulus of the growth tables.
 pub const LARGEST_PRIME: u32 = PRIMES[3];
 
-/// The shape of a circuit: as many layers as its depth, and one width exponent for all of them.
+/// The kinds that gates are drawn from, each as often as the others.
+#[derive(Clone, Copy)]
+pub struct Kinds {
+    name: &'static str,
+    numbers: &'static [u32],
+}
+
+/// What the gates of a circuit are where its size is what matters.
+pub const SUMS_AND_PRODUCTS: Kinds = Kinds { name: "add, multiply", numbers: &[1, 2] };
+
+/// Each kind that computes something by itself, and mixed.
+pub const KINDS: [Kinds; 5] = [
+    Kinds { name: "add", numbers: &[1] },
+    Kinds { name: "multiply", numbers: &[2] },
+    Kinds { name: "subtract", numbers: &[3] },
+    SUMS_AND_PRODUCTS,
+    Kinds { name: "add, multiply, subtract", numbers: &[1, 2, 3] },
+];
+
+impl fmt::Display for Kinds {
+    fn fmt(&self, formatter: &mut fmt::Formatter) -> fmt::Result {
+        formatter.write_str(self.name)
+    }
+}
+
+/// The shape of a circuit: as many layers as its depth, one width exponent for all of them, and the kinds of its gates.
 #[derive(Clone, Copy)]
 pub struct Shape {
     pub prime: u32,
     pub depth: usize,
     pub exponent: usize,
+    pub kinds: Kinds,
 }
 
 /// A job: what every operation needs.
@@ -46,12 +73,13 @@ impl Draw {
     }
 }
 
-/// Gates above a layer of `next` gates: half of them add, half multiply.
-fn gates(draw: &mut Draw, count: usize, next: u32) -> Vec<u32> {
+/// Gates above a layer of `next` gates. The wires of one that subtracts are in either order.
+fn gates(draw: &mut Draw, kinds: Kinds, count: usize, next: u32) -> Vec<u32> {
     let mut words = Vec::with_capacity(3 * count);
     for _ in 0..count {
         let (a, b) = (draw.below(next), draw.below(next));
-        words.extend([1 + draw.below(2), a.min(b), a.max(b)]);
+        let kind = kinds.numbers[draw.below(kinds.numbers.len() as u32) as usize];
+        words.extend(if kind == 3 { [kind, a, b] } else { [kind, a.min(b), a.max(b)] });
     }
     words
 }
@@ -60,9 +88,9 @@ fn circuit(draw: &mut Draw, shape: Shape) -> Vec<u32> {
     let width = 1 << shape.exponent;
     let mut words = vec![shape.prime, shape.depth as u32];
     words.extend(vec![shape.exponent as u32; shape.depth]);
-    words.extend(gates(draw, 1, width));
+    words.extend(gates(draw, shape.kinds, 1, width));
     for _ in 1..shape.depth {
-        words.extend(gates(draw, width as usize, width));
+        words.extend(gates(draw, shape.kinds, width as usize, width));
     }
     words
 }

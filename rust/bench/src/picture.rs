@@ -16,7 +16,7 @@ struct Panel<'a> {
     left: f64,
     title: String,
     letter: &'a str,
-    lines: &'a [Line],
+    lines: &'a [Line<usize>],
 }
 
 impl Panel<'_> {
@@ -82,7 +82,7 @@ fn height(micro: f64) -> f64 {
     TOP + HEIGHT * (1.0 - share)
 }
 
-fn legend(svg: &mut String, lines: &[Line]) {
+fn legend(svg: &mut String, lines: &[Line<usize>]) {
     for (place, (line, colour)) in lines.iter().zip(COLOURS).enumerate() {
         let x = 70.0 + 120.0 * place as f64;
         let _ = writeln!(svg, "<line x1='{x}' x2='{}' y1='18' y2='18' stroke='{colour}' stroke-width='2'/>", x + 24.0);

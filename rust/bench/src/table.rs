@@ -1,10 +1,10 @@
 //! The tables, as Markdown.
-use crate::circuits::{Shape, PRIMES};
-use crate::growth::{Growth, Line, DEPTH, EXPONENT};
+use crate::circuits::{Shape, PRIMES, SUMS_AND_PRODUCTS};
+use crate::growth::{Growth, Line, DEPTH, EXPONENT, KINDS_DEPTH};
 use crate::operations::OPERATIONS;
 use crate::timing::{times, Times};
 use kidlothe::{MAX_DEPTH, MAX_EXPONENT};
-use std::fmt::Write;
+use std::fmt::{Display, Write};
 
 /// A size by name: its depth and exponent.
 const SIZES: [(&str, usize, usize); 3] = [("small", 2, 2), ("middle", 8, 5), ("largest", MAX_DEPTH, MAX_EXPONENT)];
@@ -20,7 +20,8 @@ pub fn measured() -> Vec<Row> {
     let mut rows = Vec::new();
     for operation in &OPERATIONS {
         for (size, &(_, depth, exponent)) in SIZES.iter().enumerate() {
-            let times = PRIMES.map(|prime| times(operation, Shape { prime, depth, exponent }));
+            let times =
+                PRIMES.map(|prime| times(operation, Shape { prime, depth, exponent, kinds: SUMS_AND_PRODUCTS }));
             rows.push(Row { operation: operation.name, size, times: times.to_vec() });
         }
     }
@@ -29,7 +30,7 @@ pub fn measured() -> Vec<Row> {
 
 fn head(text: &mut String, run: &str) {
     let _ = writeln!(text, "# Benchmark\n\n{run}.\n");
-    let _ = writeln!(text, "The proved library beside a plain Rust implementation of the same algorithms (`rust/plain`, products by `%`), both built for release, timed in one run in turn on the same 32 random circuits of a shape; medians. A ratio is the proved library's time over the plain one's. Times on such a machine vary from run to run, and ratios somewhat, those of narrow circuits most.\n");
+    let _ = writeln!(text, "The proved library beside a plain Rust implementation of the same algorithms (`rust/plain`, products by `%`), both built for release, timed in one run in turn on the same 32 random circuits of a shape, whose gates add or multiply where nothing else is said; medians. A ratio is the proved library's time over the plain one's. Times on such a machine vary from run to run, and ratios somewhat, those of narrow circuits most.\n");
 }
 
 fn microseconds(seconds: f64) -> String {
@@ -61,19 +62,19 @@ fn ratios(text: &mut String, rows: &[Row]) {
     }
 }
 
-/// A table of one axis: for each operation the time at each place, and the ratio.
-fn axis(text: &mut String, title: &str, letter: &str, lines: &[Line]) {
+/// A table of one axis, whose places have a name: for each operation the time at each place, and the ratio.
+fn axis<P: Display>(text: &mut String, title: &str, place: &str, lines: &[Line<P>]) {
     let _ = writeln!(text, "\n## {title}\n");
     let names: Vec<String> = lines.iter().map(|line| format!("{} µs | ratio", line.name)).collect();
-    let _ = writeln!(text, "| {letter} | {} |", names.join(" | "));
+    let _ = writeln!(text, "| {place} | {} |", names.join(" | "));
     let _ = writeln!(text, "|---|{}", "---|---|".repeat(lines.len()));
-    for place in 0..lines[0].points.len() {
+    for row in 0..lines[0].points.len() {
         let cells: Vec<String> = lines
             .iter()
-            .map(|line| line.points[place].1)
+            .map(|line| &line.points[row].1)
             .map(|times| format!("{} | {:.2}", microseconds(times.proved), times.ratio))
             .collect();
-        let _ = writeln!(text, "| {} | {} |", lines[0].points[place].0, cells.join(" | "));
+        let _ = writeln!(text, "| {} | {} |", lines[0].points[row].0, cells.join(" | "));
     }
 }
 
@@ -83,6 +84,8 @@ pub fn text(run: &str, rows: &[Row], growth: &Growth) -> String {
     ratios(&mut text, rows);
     axis(&mut text, &format!("Growth with k, at D {DEPTH} and the largest p"), "k", &growth.by_exponent);
     axis(&mut text, &format!("Growth with D, at k {EXPONENT} and the largest p"), "D", &growth.by_depth);
+    let title = format!("Kinds of gates, at D {KINDS_DEPTH}, k {EXPONENT} and the largest p");
+    axis(&mut text, &title, "kinds, equally often", &growth.by_kinds);
     let _ = writeln!(text, "\n![Times by k and by D](growth.svg)");
     text
 }
