@@ -123,6 +123,7 @@ impl Instance {
         self.places.iter().map(|place| place.length).sum()
     }
 
+    /// The gates of all layers, the output's first.
     pub fn gates(&self) -> &[[u32; 3]] {
         self.circuit[self.gate_start(0)..].as_chunks().0
     }
