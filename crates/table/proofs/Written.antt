@@ -2,29 +2,23 @@
 -- Assumes nothing.
 use Prim.Native.Nat.{ℕ}
 use mathlib.Core.Path.{refl}
+use mathlib.Core.List.{◌++◌, map}
 use Rattle.lists.specs.Each.{All}
 use Rattle.lists.specs.Count.{range}
 use Rattle.lists.proofs.Each.{all_always, all_append, all_map}
-use Rattle.table.specs.Rows.{Row, c1, c9_accepted, c10, c13, c16, c19, every_coin}
+use Rattle.table.specs.Rows.{Row, c1, c9_accepted, c10, differences, true_output, every_coin}
 use Rattle.table.specs.Written.{IsHonest, honest_rows, AllHonest, whole_proofs, AllProve, one_proofs, AllProveOne}
 use Rattle.table.proofs.Opened.{proving}
 
--- C1, and the differences
+-- C1
 c1_honest : IsHonest c1
 unfolding proving
 c1_honest = (refl, refl)
 
-c13_honest : IsHonest c13
+-- C13, C16 and C19
+differences_honest : All IsHonest (map true_output differences)
 unfolding proving
-c13_honest = (refl, refl)
-
-c16_honest : IsHonest c16
-unfolding proving
-c16_honest = (refl, refl)
-
-c19_honest : IsHonest c19
-unfolding proving
-c19_honest = (refl, refl)
+differences_honest = ((refl, refl), ((refl, refl), ((refl, refl), tt)))
 
 -- C9 and C10: the one message comes before the coin, so it is the same for each
 c9_honest : (t : ℕ) → IsHonest (c9_accepted t)
@@ -40,10 +34,12 @@ every_coin_lem P case each = all_map P case (range 13) (all_always (range 13) ea
 
 pub rows_honest : AllHonest
 unfolding honest_rows
-rows_honest =
-    let every = all_append IsHonest (every_coin c9_accepted) (every_coin c10)
-    (every_coin_lem IsHonest c9_accepted c9_honest) (every_coin_lem IsHonest c10 c10_honest) in
-    (c1_honest, (c13_honest, (c16_honest, (c19_honest, every))))
+rows_honest = (
+  c1_honest,
+  all_append IsHonest (map true_output differences) (every_coin c9_accepted ++ every_coin c10) differences_honest
+      (all_append IsHonest (every_coin c9_accepted) (every_coin c10)
+      (every_coin_lem IsHonest c9_accepted c9_honest) (every_coin_lem IsHonest c10 c10_honest)),
+)
 
 pub all_prove : AllProve
 unfolding whole_proofs proving

@@ -1,4 +1,4 @@
--- The worked cases C1 to C21, one table: what the whole check answers to each, and that a session ends the same way.
+-- The worked cases C1 to C24, one table: what the whole check answers to each, and that a session ends the same way.
 -- Assumes nothing.
 use Rattle.std.specs.Prelude.{ℕ, ◌≡◌}
 use mathlib.Core.List.{List, [], ◌∷◌, ◌++◌, map, flatten}
@@ -35,8 +35,7 @@ three a b c = a ∷ b ∷ c ∷ []
 abbrev pub layer : List ℕ → List ℕ → List ℕ → List (List ℕ)
 layer m₁ m₂ m₃ = m₁ ∷ m₂ ∷ m₃ ∷ []
 
--- THE CIRCUITS: the product of two inputs, the square of one, an empty gate, and wires the wrong way round; then differences, with left below,
--- equal to and above right
+-- THE CIRCUITS: the product of two inputs, the square of one, an empty gate, and wires the wrong way round
 abbrev pub product : List ℕ
 product = 13 ∷ 1 ∷ 1 ∷ 2 ∷ 0 ∷ 1 ∷ []
 
@@ -49,14 +48,9 @@ empty = 13 ∷ 1 ∷ 0 ∷ 0 ∷ 0 ∷ 0 ∷ []
 abbrev pub swapped : List ℕ
 swapped = 13 ∷ 1 ∷ 1 ∷ 2 ∷ 1 ∷ 0 ∷ []
 
-abbrev pub below : List ℕ
-below = 13 ∷ 1 ∷ 1 ∷ 3 ∷ 0 ∷ 1 ∷ []
-
-abbrev pub equal : List ℕ
-equal = 13 ∷ 1 ∷ 1 ∷ 3 ∷ 1 ∷ 1 ∷ []
-
-abbrev pub above : List ℕ
-above = 13 ∷ 1 ∷ 1 ∷ 3 ∷ 1 ∷ 0 ∷ []
+-- one gate above two inputs, by its words
+abbrev pub one_gate : ℕ → ℕ → ℕ → List ℕ
+one_gate kind left right = 13 ∷ 1 ∷ 1 ∷ kind ∷ left ∷ right ∷ []
 
 -- THE CASES
 -- C1: "the lists and the transcript of 10.1", accepted
@@ -103,9 +97,13 @@ c9_accepted t = row square (one 7) 10 (one t) (one 7 ∷ []) 0
 abbrev pub c10 : ℕ → Row
 c10 t = row empty (one 7) 0 (one t) (one 7 ∷ []) 0
 
+-- a circuit, "the rest as in C1"
+abbrev pub as_c1 : List ℕ → ℕ → Row
+as_c1 c answer = row c (two 3 5) 2 (three 4 6 9) (layer (three 2 8 3) (three 0 5 12) (two 11 4)) answer
+
 -- C11: "circuit 13 1 1 2 1 0, the rest as in C1", 7
 abbrev pub c11 : Row
-c11 = row swapped (two 3 5) 2 (three 4 6 9) (layer (three 2 8 3) (three 0 5 12) (two 11 4)) 7
+c11 = as_c1 swapped 7
 
 -- C12: "C1 with first message 15 8 3: 15 and 2 agree modulo 13", 15
 abbrev pub c12 : Row
@@ -116,68 +114,67 @@ c12 = row product (two 3 5) 2 (three 4 6 9) (layer (three 15 8 3) (three 0 5 12)
 -- and the line is V(4 + 2t) = 11 + 4t, from V(4) = 11 to V(6) = 2, so that V(u) - V(v) = 9. At t = 9 it gives 47 = 8, and the point is
 -- 4 + 9 × 2 = 22 = 9, where V is 21 = 8 too. A line 11 5 has V(u) at 0, but 3 at 1, and V(u) - V(v) would be 8; 12 3 has V(v) at 1, but 12 at 0,
 -- and it would be 10.
-abbrev pub differs : List ℕ → ℕ → List (List ℕ) → ℕ → Row
-differs c y ms answer = row c (two 3 5) y (three 4 6 9) ms answer
+pub record Difference : Type 0 where
+  pub words : List ℕ
+  pub value : ℕ
+  pub false_value : ℕ
+  pub first : List ℕ
+  pub second : List ℕ
+
+abbrev pub difference : List ℕ → ℕ → ℕ → List ℕ → List ℕ → Difference
+difference c y z m₁ m₂ = record { words = c; value = y; false_value = z; first = m₁; second = m₂ }
 
 -- Left below right: 3 - 5 = 11. S = (1 - u)v. First 0 + 2(1 - u)(u - 1) = -2 + 4u - 2u², which is 11 + 0 at 0 and 1, the claim, and -18 = 8 at 4;
--- then 2 × -3 × v(4 - v) = -24v + 6v², which is 0 + 8, and 72 = 7 at 6. S = -3 × 6 = 8, and 8 × 9 = 72 = 7.
-abbrev pub below_messages : List ℕ → List (List ℕ)
-below_messages line = layer (three 11 4 11) (three 0 2 6) line
-
--- C13: "circuit 13 1 1 3 0 1, input 3 5, coins 4 6 9, output 11, messages 11 4 11, 0 2 6 and 11 4", accepted
-abbrev pub c13 : Row
-c13 = differs below 11 (below_messages (two 11 4)) 0
-
--- C14: "C13 with output 2, right minus left", 16: 11 + 0 is not 2
-abbrev pub c14 : Row
-c14 = differs below 2 (below_messages (two 11 4)) 16
-
--- C15: "C13 with line 11 5, right at 0 alone; and with 12 3, right at 1 alone", 17: 8 × 8 = 12 and 8 × 10 = 2 are not 7
-abbrev pub c15_at_0 : Row
-c15_at_0 = differs below 11 (below_messages (two 11 5)) 17
-
-abbrev pub c15_at_1 : Row
-c15_at_1 = differs below 11 (below_messages (two 12 3)) 17
+-- then 2 × -3 × v(4 - v) = -24v + 6v², which is 0 + 8, and 72 = 7 at 6. S = -3 × 6 = 8, and 8 × 9 = 72 = 7; 8 × 8 = 12 and 8 × 10 = 2 are not.
+-- 5 - 3 = 2 is a false output.
+abbrev pub below : Difference
+below = difference (one_gate 3 0 1) 11 2 (three 11 4 11) (three 0 2 6)
 
 -- Left equal to right: 5 - 5 = 0. S = uv. First 0 + 2u(u - 1) = -2u + 2u², which is 0 + 0, and 24 = 11 at 4; then 2 × 4 × v(4 - v) = 32v - 8v²,
--- which is 0 + 24 = 11, and -96 = 8 at 6. S = 4 × 6 = 11, and 11 × 9 = 99 = 8.
-abbrev pub equal_messages : List ℕ → List (List ℕ)
-equal_messages line = layer (three 0 11 2) (three 0 6 5) line
-
--- C16: "circuit 13 1 1 3 1 1, output 0, messages 0 11 2, 0 6 5 and 11 4, the rest as in C13", accepted
-abbrev pub c16 : Row
-c16 = differs equal 0 (equal_messages (two 11 4)) 0
-
--- C17: "C16 with output 10, the sum", 16: 0 + 0 is not 10
-abbrev pub c17 : Row
-c17 = differs equal 10 (equal_messages (two 11 4)) 16
-
--- C18: "C16 with line 11 5; and with 12 3", 17: 11 × 8 = 10 and 11 × 10 = 6 are not 8
-abbrev pub c18_at_0 : Row
-c18_at_0 = differs equal 0 (equal_messages (two 11 5)) 17
-
-abbrev pub c18_at_1 : Row
-c18_at_1 = differs equal 0 (equal_messages (two 12 3)) 17
+-- which is 0 + 24 = 11, and -96 = 8 at 6. S = 4 × 6 = 11, and 11 × 9 = 99 = 8; 11 × 8 = 10 and 11 × 10 = 6 are not. 5 + 5 = 10 is a false output.
+abbrev pub equal : Difference
+equal = difference (one_gate 3 1 1) 0 10 (three 0 11 2) (three 0 6 5)
 
 -- Left above right: 5 - 3 = 2. S = u(1 - v). First 2u² + 0, which is 0 + 2, and 32 = 6 at 4; then 2 × 4 × (1 - v)(4 - v) = 32 - 40v + 8v², which is
--- 6 + 0, and 80 = 2 at 6. S = 4 × -5 = 6, and 6 × 9 = 54 = 2.
-abbrev pub above_messages : List ℕ → List (List ℕ)
-above_messages line = layer (three 0 0 2) (three 6 12 8) line
+-- 6 + 0, and 80 = 2 at 6. S = 4 × -5 = 6, and 6 × 9 = 54 = 2; 6 × 8 = 9 and 6 × 10 = 8 are not. 3 - 5 = 11 is a false output.
+abbrev pub above : Difference
+above = difference (one_gate 3 1 0) 2 11 (three 0 0 2) (three 6 12 8)
 
--- C19: "circuit 13 1 1 3 1 0, output 2, messages 0 0 2, 6 12 8 and 11 4, the rest as in C13", accepted
-abbrev pub c19 : Row
-c19 = differs above 2 (above_messages (two 11 4)) 0
+abbrev pub differences : List Difference
+differences = below ∷ equal ∷ above ∷ []
 
--- C20: "C19 with output 11, right minus left", 16: 0 + 2 is not 11
-abbrev pub c20 : Row
-c20 = differs above 11 (above_messages (two 11 4)) 16
+-- one with an output and a line
+abbrev pub argued : Difference → ℕ → List ℕ → ℕ → Row
+argued d y line answer = row d.words (two 3 5) y (three 4 6 9) (layer d.first d.second line) answer
 
--- C21: "C19 with line 11 5; and with 12 3", 17: 6 × 8 = 9 and 6 × 10 = 8 are not 2
-abbrev pub c21_at_0 : Row
-c21_at_0 = differs above 2 (above_messages (two 11 5)) 17
+-- C13: "circuit 13 1 1 3 0 1, input 3 5, coins 4 6 9, output 11, messages 11 4 11, 0 2 6 and 11 4", C16: "circuit 13 1 1 3 1 1, output 0, messages
+-- 0 11 2, 0 6 5 and 11 4, the rest as in C13", C19: "circuit 13 1 1 3 1 0, output 2, messages 0 0 2, 6 12 8 and 11 4, the rest as in C13", accepted
+abbrev pub true_output : Difference → Row
+true_output d = argued d d.value (two 11 4) 0
 
-abbrev pub c21_at_1 : Row
-c21_at_1 = differs above 2 (above_messages (two 12 3)) 17
+-- C14: "C13 with output 2, right minus left", C17: "C16 with output 10, the sum", C20: "C19 with output 11, right minus left", 16
+abbrev pub false_output : Difference → Row
+false_output d = argued d d.false_value (two 11 4) 16
+
+-- C15: "C13 with line 11 5, right at 0 alone; and with 12 3, right at 1 alone", 17; so C18 and C21
+abbrev pub right_at_0 : Difference → Row
+right_at_0 d = argued d d.value (two 11 5) 17
+
+abbrev pub right_at_1 : Difference → Row
+right_at_1 d = argued d d.value (two 12 3) 17
+
+-- WHAT IS NO GATE
+-- C22: "circuit 13 1 1 1 1 0, the rest as in C1", 7: left above right of a gate that adds
+abbrev pub c22 : Row
+c22 = as_c1 (one_gate 1 1 0) 7
+
+-- C23: "circuit 13 1 1 0 1 0, the rest as in C1", 7: a wire of an empty gate
+abbrev pub c23 : Row
+c23 = as_c1 (one_gate 0 1 0) 7
+
+-- C24: "circuit 13 1 1 4 0 1, the rest as in C1", 6
+abbrev pub c24 : Row
+c24 = as_c1 (one_gate 4 0 1) 6
 
 -- a row for every coin
 abbrev pub every_coin : (ℕ → Row) → List Row
@@ -189,7 +186,9 @@ table =
     (c1 ∷ c2 ∷ c3 ∷ c4 ∷ c5 ∷ c6 ∷ c7 ∷ c8 ∷ [])
     ++ every_coin c9_refused ++ every_coin c9_accepted ++ every_coin c10
     ++ (c11 ∷ c12 ∷ [])
-    ++ (c13 ∷ c14 ∷ c15_at_0 ∷ c15_at_1 ∷ c16 ∷ c17 ∷ c18_at_0 ∷ c18_at_1 ∷ c19 ∷ c20 ∷ c21_at_0 ∷ c21_at_1 ∷ [])
+    ++ map true_output differences
+    ++ map false_output differences ++ map right_at_0 differences ++ map right_at_1 differences
+    ++ (c22 ∷ c23 ∷ c24 ∷ [])
 
 -- the whole check, on the messages one directly after another
 unfoldable pub whole_answer : Row → ℕ

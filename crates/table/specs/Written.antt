@@ -1,15 +1,15 @@
 -- The honest side of the cases: the transcripts of C1, C13, C16 and C19, C9's message 7 and C10's, as the circuit's value and as the honest
 -- messages; and C1, C9 and C10 as both forms of Prove leave them in a buffer.
 -- Assumes nothing.
-use Rattle.std.specs.Prelude.{ℕ, ◌≡◌, List, [], ◌∷◌, ◌++◌}
+use Rattle.std.specs.Prelude.{ℕ, ◌≡◌, List, [], ◌∷◌, ◌++◌, map}
 use Rattle.lists.specs.Each.{All}
 use Rattle.circuit.specs.Values.{value}
 use Rattle.protocol.specs.Prove.{honest, messages_on, Proof, proved, refused, prove_answer, prove_buffer, OneMessage, wrote, prove_one_answer, prove_one_buffer}
-use Rattle.table.specs.Rows.{Row, one, two, three, product, square, empty, c1, c9_accepted, c10, c13, c16, c19, every_coin}
+use Rattle.table.specs.Rows.{Row, one, two, three, product, square, empty, c1, c9_accepted, c10, differences, true_output, every_coin}
 
 -- THE HONEST ROWS OF THE TABLE: their output is the circuit's value, and their messages are the honest ones
 unfoldable pub honest_rows : List Row
-honest_rows = (c1 ∷ c13 ∷ c16 ∷ c19 ∷ []) ++ every_coin c9_accepted ++ every_coin c10
+honest_rows = (c1 ∷ []) ++ map true_output differences ++ every_coin c9_accepted ++ every_coin c10
 
 -- of C1: "claim 2 sum 2 8 3 sum 0 5 12 line 11 4"
 abbrev pub IsHonest : Row → Type 0
