@@ -1,4 +1,4 @@
-//! The cases C1 to C21.
+//! The cases C1 to C24.
 
 use super::{figures, CIRCUIT, COINS, INPUT, MESSAGES, SENTINEL};
 use crate::{check, evaluate, load, open, prove, prove_one, step, Progress};
@@ -138,8 +138,18 @@ fn c10_an_empty_gate_gives_zero() {
 }
 
 #[test]
-fn c11_left_is_not_above_right() {
-    assert_eq!(load(&[13, 1, 1, 2, 1, 0]), Err(7));
+fn c11_and_c22_to_c24_have_a_circuit_that_is_not_legal() {
+    let circuits = [
+        ("C11", [13, 1, 1, 2, 1, 0], 7),
+        ("C22", [13, 1, 1, 1, 1, 0], 7),
+        ("C23", [13, 1, 1, 0, 1, 0], 7),
+        ("C24", [13, 1, 1, 4, 0, 1], 6),
+    ];
+    for (name, circuit, refusal) in circuits {
+        assert_eq!(load(&circuit), Err(refusal), "{name}");
+        assert_eq!(check(&circuit, &INPUT, 2, &COINS, &MESSAGES), Err(refusal), "{name}");
+        assert_eq!(open(&circuit, &INPUT, 2, &COINS).err(), Some(refusal), "{name}");
+    }
     assert_eq!(load(&CIRCUIT), Ok(()));
 }
 
