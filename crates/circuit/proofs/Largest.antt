@@ -22,7 +22,7 @@ use Rattle.circuit.specs.Circuit.{
 }
 use Rattle.circuit.specs.Sized.{LegalCircuit}
 use Rattle.circuit.specs.Theorems.{InLimits, LegalSizes, LargestSizes}
-use Rattle.circuit.proofs.Sized.{one_output, width_le, count_few, deep, last_small}
+use Rattle.circuit.proofs.Sized.{width_le, count_few, deep, last_small}
 use Rattle.circuit.proofs.Loading.{legal_circuit}
 use Rattle.circuit.proofs.Layers.{all_below_lem}
 
@@ -46,7 +46,7 @@ module _ (c : List ℕ) (h : LegalCircuit c) where
       record {
         words = omega arith;
         values = let wide = width_le (input_exponent c) (last_small c h) in omega arith;
-        coins = omega (arith, one_output c, sum_few 2);
+        coins = let outs = h.sized.headed.few in omega (arith, sum_few 2);
         messages = sum_few 7;
       }
 
@@ -55,12 +55,12 @@ legal_sizes c e = in_limits c (legal_circuit c e)
 
 pub largest_sizes : LargestSizes
 unfolding gate_count word_count value_count input_exponent coin_count message_words sum
-largest_sizes c d e =
-    let gates : gate_count (output_exponent c) (exponents c) ≡ max_gates = ap₂ gate_count (one_output c) e in
-    let inputs : input_count c ≡ max_width = ap₂ (λ (k : ℕ) (ks : List ℕ). 2 ^ get_or (k ∷ ks) (length ks) 0) (one_output c) e in
+largest_sizes c d o e =
+    let gates : gate_count (output_exponent c) (exponents c) ≡ max_gates = ap₂ gate_count o e in
+    let inputs : input_count c ≡ max_width = ap₂ (λ (k : ℕ) (ks : List ℕ). 2 ^ get_or (k ∷ ks) (length ks) 0) o e in
     record {
       most_words = omega (arith, d, gates);
       most_values = omega (arith, gates, inputs);
-      most_coins = ap₂ (λ (k : ℕ) (ks : List ℕ). k + sum (map (λ k. 2 * k + 1) ks)) (one_output c) e;
+      most_coins = ap₂ (λ (k : ℕ) (ks : List ℕ). k + sum (map (λ k. 2 * k + 1) ks)) o e;
       most_messages = ap (λ (ks : List ℕ). sum (map (λ k. 7 * k + 1) ks)) e;
     }

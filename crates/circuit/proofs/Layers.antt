@@ -1,6 +1,6 @@
 -- The layers of a legal circuit: their sizes, their values, their wires.
 -- Assumes nothing.
-use Prim.Native.Nat.{ℕ, zero, suc, ◌+◌, ◌-◌, ◌*◌, ◌^◌, ◌≤◌, ◌<◌}
+use Prim.Native.Nat.{ℕ, zero, suc, ◌+◌, ◌-◌, ◌*◌, ◌^◌, ◌≤◌, ◌<◌, zero-le}
 use mathlib.Core.Path.{◌≡◌, refl, sym, ap, ap₂, ◌∙◌}
 use mathlib.Core.Bool.{Bool, true, ◌&&◌}
 use mathlib.Core.List.{List, [], ◌∷◌, map}
@@ -15,12 +15,12 @@ use Rattle.refusal.proofs.Order.{first_none}
 use Rattle.algebra.specs.Numbers.{Numbers, words}
 use Rattle.circuit.specs.Gate.{Gate, gate_value}
 use Rattle.circuit.specs.Circuit.{prime_of, depth, exponents, exponent_at, output_exponent, gates_start, gates_of, layers_of, gate_layers, gates_at, input_exponent}
-use Rattle.circuit.specs.Legal.{all_below, gate_cause, gates_cause, layers_cause, lists_cause}
+use Rattle.circuit.specs.Legal.{all_below, gate_cause, gates_cause, layers_cause}
 use Rattle.circuit.specs.Sized.{LegalCircuit}
-use Rattle.circuit.specs.Values.{layers_from, layers, values_at, value}
-use Rattle.circuit.specs.Theorems.{LegalPrime, ValuesAreResidues, LayerSizes, LastLayer, LayerByLayer, WiresBelow, OutputLayer}
+use Rattle.circuit.specs.Values.{layers_from, layers, values_at, outputs}
+use Rattle.circuit.specs.Theorems.{LegalPrime, ValuesAreResidues, LayerSizes, LastLayer, LayerByLayer, WiresBelow, OutputLayer, OneOutput}
 use Rattle.circuit.proofs.Operate.{operate_below}
-use Rattle.circuit.proofs.Sized.{one_output, deep}
+use Rattle.circuit.proofs.Sized.{deep}
 use Rattle.circuit.proofs.Gates.{length_layers}
 use Rattle.circuit.proofs.Loading.{split_true, legal_circuit, legal_lists}
 use Rattle.circuit.proofs.Legal.{gate_wires, length_gates}
@@ -143,28 +143,25 @@ legal_wires c legal i h = layers_wired (exponents c) (gate_layers c) i legal.wir
 pub wires_below_next : WiresBelow
 wires_below_next c e i h = legal_wires c (legal_circuit c e) i h
 
+first_below : (p : ℕ) (ls : List (List ℕ)) → All (λ layer. All (λ v. v < p) layer) ls → All (λ v. v < p) (get_or ls 0 [])
+first_below p [] h = tt
+first_below p (vs ∷ ls) h = h.0
+
+pub output_layer : OutputLayer
+unfolding values_at
+output_layer c input e = record {
+  size = layer_sizes c input e 0 zero-le;
+  residues = first_below (prime_of c) (layers c input) (values_are_residues c input e);
+}
+
 -- a list of one word
 single : (l : List ℕ) → length l ≡ 1 → l ≡ get_or l 0 0 ∷ []
 single [] e = absurd (omega arith)
 single (x ∷ []) e = refl
 single (x ∷ y ∷ l) e = absurd (omega arith)
 
-pub output_layer : OutputLayer
-unfolding value
-output_layer c input e =
-    single (values_at c input 0) (layer_sizes c input e 0 (omega arith) ∙ ap (λ (k : ℕ). 2 ^ k) (one_output c))
-
--- the circuit's value is a residue
-first_below : (p : ℕ) → 0 < p → (ls : List (List ℕ)) → All (λ layer. All (λ v. v < p) layer) ls → get_or (get_or ls 0 []) 0 0 < p
-first_below p pos [] h = pos
-first_below p pos ([] ∷ ls) h = pos
-first_below p pos ((v ∷ vs) ∷ ls) h = h.0.0
-
-pub value_below : (c input : List ℕ) → lists_cause c input ≡ 0 → value c input < prime_of c
-unfolding value values_at
-value_below c input e =
-    let two = (listed_prime (prime_of c) (legal_lists c input e).circuit.listed).two_le in
-    first_below (prime_of c) (omega arith) (layers c input) (values_are_residues c input e)
+pub one_output : OneOutput
+one_output c input e none = single (outputs c input) ((output_layer c input e).size ∙ ap (λ (k : ℕ). 2 ^ k) none)
 
 -- the largest residue of a listed prime
 pub prime_modulus : (c : List ℕ) → LegalCircuit c → (largest : ℕ) → largest ≡ prime_of c - 1 → largest + 1 ≡ prime_of c

@@ -11,9 +11,9 @@ use Rattle.refusal.specs.Number.{number_of}
 use Rattle.refusal.specs.declared.Cause.{Cause}
 use Rattle.refusal.proofs.Order.{need_none, first_none, refused_first, need_all, first_all}
 use Rattle.primes.specs.Prime.{is_listed}
-use Rattle.circuit.specs.Limits.{header_words, max_depth, max_exponent}
+use Rattle.circuit.specs.Limits.{header_words, max_depth, max_exponent, max_output_exponent}
 use Rattle.circuit.specs.Gate.{Gate, max_kind}
-use Rattle.circuit.specs.Circuit.{prime_of, depth, exponents, gate_layers, word_count, input_count}
+use Rattle.circuit.specs.Circuit.{prime_of, depth, output_exponent, exponents, gate_layers, word_count, input_count}
 use Rattle.circuit.specs.Legal.{all_below, depth_good, exponents_good, wires_good, gate_cause, gates_cause, layers_cause, load_answer, input_cause, lists_cause}
 use Rattle.circuit.specs.Sized.{Exponents, LegalCircuit}
 
@@ -60,16 +60,26 @@ module _ (c : List ℕ) where
     unfolding load_answer
     load_exponents h = simp (r.headed, r.listed, depth_good_lem, h)
 
+    pub load_many : max_output_exponent < output_exponent c → load_answer c ≡ 4
+    load_many h =
+        load_exponents (ap (λ (x : Bool). x && (eqb (length (exponents c)) (depth c) && all_below (max_exponent + 1) (exponents c)))
+        (lt-leb (output_exponent c) max_output_exponent h))
+
+    load_written : (eqb (length (exponents c)) (depth c) && all_below (max_exponent + 1) (exponents c)) ≡ false → load_answer c ≡ 4
+    load_written h = load_exponents (second_false (leb (output_exponent c) max_output_exponent) h)
+
     pub load_ends : ¬ (length (exponents c) ≡ depth c) → load_answer c ≡ 4
     load_ends h =
-        load_exponents (ap (λ (x : Bool). x && all_below (max_exponent + 1) (exponents c)) (ne_eqb (length (exponents c)) (depth c) h))
+        load_written (ap (λ (x : Bool). x && all_below (max_exponent + 1) (exponents c)) (ne_eqb (length (exponents c)) (depth c) h))
 
     pub load_wide : all_below (max_exponent + 1) (exponents c) ≡ false → load_answer c ≡ 4
-    load_wide h = load_exponents (second_false (eqb (length (exponents c)) (depth c)) h)
+    load_wide h = load_written (second_false (eqb (length (exponents c)) (depth c)) h)
 
     module _ (x : Exponents c) where
       exponents_good_lem : exponents_good c ≡ true
-      exponents_good_lem = both_true (eq-eqb (length (exponents c)) (depth c) x.whole) x.small
+      exponents_good_lem =
+          both_true (le-leb (output_exponent c) max_output_exponent x.few)
+          (both_true (eq-eqb (length (exponents c)) (depth c) x.whole) x.small)
 
       pub load_count : ¬ (length c ≡ word_count c) → load_answer c ≡ 5
       unfolding load_answer
@@ -93,11 +103,13 @@ legal_circuit c e =
     let wide = need_none (exponents_good c) 3 _ deep.1 in
     let full = need_none (eqb (length c) (word_count c)) 4 _ wide.1 in
     let range = split_true (leb 1 (depth c)) (leb (depth c) max_depth) deep.0 in
-    let exps = split_true (eqb (length (exponents c)) (depth c)) (all_below (max_exponent + 1) (exponents c)) wide.0 in
+    let outs = split_true (leb (output_exponent c) max_output_exponent) _ wide.0 in
+    let exps = split_true (eqb (length (exponents c)) (depth c)) (all_below (max_exponent + 1) (exponents c)) outs.1 in
     record {
       sized = record {
         headed = record {
           shallow = leb-true (depth c) max_depth range.1;
+          few = leb-true (output_exponent c) max_output_exponent outs.0;
           whole = eqb-true (length (exponents c)) (depth c) exps.0;
           small = exps.1;
         };

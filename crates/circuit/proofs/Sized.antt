@@ -11,7 +11,7 @@ use native.Mathlib.Omega.{arith}
 use lib.Dec.{ltb, lit<}
 use lib.ListN.{length, get_or}
 use borrow.Author.Tests.{ltb-true, le-leb, lt-leb}
-use Rattle.circuit.specs.Limits.{max_depth, max_exponent, max_width, max_gates}
+use Rattle.circuit.specs.Limits.{max_depth, max_exponent, max_output_exponent, max_width, max_outputs, max_gates}
 use Rattle.circuit.specs.Circuit.{width_of, depth, exponents, exponent_at, output_exponent, gate_count, input_exponent}
 use Rattle.circuit.specs.Legal.{all_below}
 use Rattle.circuit.specs.Sized.{Exponents, LegalCircuit, LayerOf}
@@ -65,27 +65,24 @@ count_bound k (k' ∷ ks) l e =
     let ih = count_bound k' ks (omega arith) (below_rest (max_exponent + 1) k' ks e) in
     omega arith
 
--- k_0: layer 0 is one gate
-pub one_output : (c : List ℕ) → output_exponent c ≡ 0
-unfolding output_exponent
-one_output c = refl
-
-count_others : (ks : List ℕ) → all_below (max_exponent + 1) ks ≡ true → length ks ≤ max_depth → gate_count 0 ks ≤ max_gates
+-- layer 0 is an output wide each, and the others are no wider than a layer can be
+count_others : (k : ℕ) (ks : List ℕ) → k ≤ max_output_exponent → all_below (max_exponent + 1) ks ≡ true → length ks ≤ max_depth → gate_count k ks ≤ max_gates
 unfolding gate_count
-count_others [] e m = omega arith
-count_others (k ∷ ks) e m =
-    let low : k < max_exponent + 1 = below_each (max_exponent + 1) (k ∷ ks) 0 e (omega arith) in
-    let b = count_bound k ks (omega arith) (below_rest (max_exponent + 1) k ks e) in
+count_others k [] l e m = omega arith
+count_others k (k' ∷ ks) l e m =
+    let w : 2 ^ k ≤ max_outputs = pow-le-pow_right (lit< tt) l in
+    let low : k' < max_exponent + 1 = below_each (max_exponent + 1) (k' ∷ ks) 0 e (omega arith) in
+    let b = count_bound k' ks (omega arith) (below_rest (max_exponent + 1) k' ks e) in
     let others : length ks ≤ max_depth - 1 = omega arith in
     let all : max_width * length ks ≤ max_width * (max_depth - 1) = mul-le-mul_left max_width others in
     omega arith
 
 pub count_few : (c : List ℕ) → Exponents c → gate_count (output_exponent c) (exponents c) ≤ max_gates
-count_few c h = rw one_output (count_others (exponents c) h.small (let n = h.shallow in omega (arith, h.whole)))
+count_few c h = count_others (output_exponent c) (exponents c) h.few h.small (let n = h.shallow in omega (arith, h.whole))
 
 -- a layer's exponent
 pub exponent_small : (c : List ℕ) (layer : ℕ) → LayerOf c layer → exponent_at c layer ≤ max_exponent
-exponent_small c zero h = omega (arith, one_output c)
+exponent_small c zero h = let few = h.headed.few in omega arith
 exponent_small c (suc l) h =
     let e : get_or (exponents c) l 0 < max_exponent + 1 = below_each (max_exponent + 1) (exponents c) l h.headed.small (omega (arith, h.headed.whole, h.inside)) in
     omega arith

@@ -1,4 +1,4 @@
--- A circuit, from its word list: "The circuit list is p, D, k_1 to k_D, then the gates of layers 0 to D-1 in order". The definitions
+-- A circuit, from its word list: "The circuit list is p, D, k_0, k_1 to k_D, then the gates of layers 0 to D-1 in order". The definitions
 -- are total; what they give means something where the list is legal.
 -- Assumes nothing.
 use Rattle.std.specs.Prelude.{ℕ, zero, suc, ◌+◌, ◌*◌, ◌^◌, cond, List, [], ◌∷◌, map, leb, length, take, drop, get_or}
@@ -12,13 +12,13 @@ prime_of c = get_or c 0 0
 abbrev pub depth : List ℕ → ℕ
 depth c = get_or c 1 0
 
+-- k_0
+abbrev pub output_exponent : List ℕ → ℕ
+output_exponent c = get_or c 2 0
+
 -- k_1 to k_D
 unfoldable pub exponents : List ℕ → List ℕ
 exponents c = take (depth c) (drop header_words c)
-
--- k_0: it "is 0 and not written"
-unfoldable pub output_exponent : List ℕ → ℕ
-output_exponent c = 0
 
 -- k_i
 abbrev pub exponent_at : List ℕ → ℕ → ℕ

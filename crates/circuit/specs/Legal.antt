@@ -3,20 +3,21 @@
 use Rattle.std.specs.Prelude.{ℕ, ◌+◌, ◌^◌, Bool, true, not, ◌&&◌, ◌||◌, List, [], ◌∷◌, eqb, ltb, leb, length}
 use Rattle.primes.specs.Prime.{is_listed}
 use Rattle.refusal.specs.Order.{need, first}
-use Rattle.circuit.specs.Limits.{header_words, max_depth, max_exponent}
+use Rattle.circuit.specs.Limits.{header_words, max_depth, max_exponent, max_output_exponent}
 use Rattle.circuit.specs.Gate.{Gate, max_kind}
-use Rattle.circuit.specs.Circuit.{prime_of, depth, exponents, gate_layers, word_count, input_count}
+use Rattle.circuit.specs.Circuit.{prime_of, depth, output_exponent, exponents, gate_layers, word_count, input_count}
 
 unfoldable pub all_below : ℕ → List ℕ → Bool
 all_below p [] = true
 all_below p (w ∷ ws) = ltb w p && all_below p ws
 
--- 3 "D is outside 1 to 12", 4 "the list ends before its D exponents, or one is above 8"
+-- 3 "D is outside 1 to 12", 4 "the list ends before its exponents", or k_0 is above 4 or another one above 8
 abbrev pub depth_good : List ℕ → Bool
 depth_good c = leb 1 (depth c) && leb (depth c) max_depth
 
 abbrev pub exponents_good : List ℕ → Bool
-exponents_good c = eqb (length (exponents c)) (depth c) && all_below (max_exponent + 1) (exponents c)
+exponents_good c =
+    leb (output_exponent c) max_output_exponent && (eqb (length (exponents c)) (depth c) && all_below (max_exponent + 1) (exponents c))
 
 -- the wires of a gate above a layer of `next` gates; 7 "a gate's left or right is outside the next layer, left is above right and the kind is not 3,
 -- or the gate is empty and has a nonzero wire"

@@ -10,17 +10,25 @@ max_depth = 12
 abbrev pub max_exponent : ℕ
 max_exponent = 8
 
--- the words before the exponents: p and D
+-- "k_0, from 0 to 4"
+abbrev pub max_output_exponent : ℕ
+max_output_exponent = 4
+
+-- the words before k_1: p, D and k_0
 abbrev pub header_words : ℕ
-header_words = 2
+header_words = 3
 
 -- the gates of a layer
 abbrev pub max_width : ℕ
 max_width = 2 ^ max_exponent
 
--- the gates of a circuit: one in layer 0
+-- the outputs of a circuit
+abbrev pub max_outputs : ℕ
+max_outputs = 2 ^ max_output_exponent
+
+-- its gates: those of layer 0 are its outputs
 abbrev pub max_gates : ℕ
-max_gates = 1 + (max_depth - 1) * max_width
+max_gates = max_outputs + (max_depth - 1) * max_width
 
 -- "gate and input values" of the largest circuit
 abbrev pub max_values : ℕ
@@ -32,7 +40,7 @@ max_words = header_words + max_depth + 3 * max_gates
 
 -- its coins, and the words of its messages
 abbrev pub max_coins : ℕ
-max_coins = max_depth * (2 * max_exponent + 1)
+max_coins = max_output_exponent + max_depth * (2 * max_exponent + 1)
 
 abbrev pub max_message_words : ℕ
 max_message_words = max_depth * (7 * max_exponent + 1)

@@ -2,13 +2,14 @@
 -- Assumes nothing.
 use Rattle.std.specs.Prelude.{ℕ, ◌+◌, ◌≤◌, ◌≡◌, true, List, length}
 use Rattle.primes.specs.Prime.{is_listed}
-use Rattle.circuit.specs.Limits.{max_depth, max_exponent}
-use Rattle.circuit.specs.Circuit.{prime_of, depth, exponents, gate_layers, word_count}
+use Rattle.circuit.specs.Limits.{max_depth, max_exponent, max_output_exponent}
+use Rattle.circuit.specs.Circuit.{prime_of, depth, output_exponent, exponents, gate_layers, word_count}
 use Rattle.circuit.specs.Legal.{all_below, layers_cause}
 
 -- neither 3 nor 4: the exponents are there
 pub record Exponents (c : List ℕ) : Type 0 where
   pub shallow : depth c ≤ max_depth
+  pub few : output_exponent c ≤ max_output_exponent
   pub whole : length (exponents c) ≡ depth c
   pub small : all_below (max_exponent + 1) (exponents c) ≡ true
 

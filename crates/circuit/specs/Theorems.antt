@@ -5,10 +5,10 @@ use Rattle.lists.specs.Each.{All}
 use Rattle.primes.specs.Prime.{Prime}
 use Rattle.algebra.specs.Numbers.{words}
 use Rattle.circuit.specs.Gate.{gate_value}
-use Rattle.circuit.specs.Limits.{max_depth, max_exponent, max_values, max_words, max_coins, max_message_words}
-use Rattle.circuit.specs.Circuit.{prime_of, depth, exponents, exponent_at, gates_at, word_count, value_count, coin_count, message_words}
+use Rattle.circuit.specs.Limits.{max_depth, max_exponent, max_output_exponent, max_values, max_words, max_coins, max_message_words}
+use Rattle.circuit.specs.Circuit.{prime_of, depth, output_exponent, exponents, exponent_at, gates_at, word_count, value_count, coin_count, message_words}
 use Rattle.circuit.specs.Legal.{load_answer, lists_cause}
-use Rattle.circuit.specs.Values.{layers, values_at, value}
+use Rattle.circuit.specs.Values.{layers, values_at, outputs, value}
 
 abbrev pub LegalPrime : Type 0
 LegalPrime = (c : List ℕ) → load_answer c ≡ 0 → Prime (prime_of c)
@@ -36,9 +36,17 @@ WiresBelow =
     (c : List ℕ) → load_answer c ≡ 0 → (i : ℕ) → i < depth c
     → All (λ g. (g.left < 2 ^ exponent_at c (suc i)) × (g.right < 2 ^ exponent_at c (suc i))) (gates_at c i)
 
--- layer 0 is the one gate whose value is the circuit's
+-- "The output becomes a list of 2^k_0 words", which are residues
+pub record OutputList (c ys : List ℕ) : Type 0 where
+  pub size : length ys ≡ 2 ^ output_exponent c
+  pub residues : All (λ y. y < prime_of c) ys
+
 abbrev pub OutputLayer : Type 0
-OutputLayer = (c input : List ℕ) → lists_cause c input ≡ 0 → values_at c input 0 ≡ value c input ∷ []
+OutputLayer = (c input : List ℕ) → lists_cause c input ≡ 0 → OutputList c (outputs c input)
+
+-- with k_0 = 0 it is the circuit's value alone
+abbrev pub OneOutput : Type 0
+OneOutput = (c input : List ℕ) → lists_cause c input ≡ 0 → output_exponent c ≡ 0 → outputs c input ≡ value c input ∷ []
 
 -- no legal circuit is larger than the limits say
 pub record InLimits (c : List ℕ) : Type 0 where
@@ -50,7 +58,8 @@ pub record InLimits (c : List ℕ) : Type 0 where
 abbrev pub LegalSizes : Type 0
 LegalSizes = (c : List ℕ) → load_answer c ≡ 0 → InLimits c
 
--- and no limit is larger than it must be: a circuit of as many layers as there can be, each as wide as it can be, has these sizes
+-- and no limit is larger than it must be: a circuit of as many outputs and layers as there can be, each layer as wide as it can be,
+-- has these sizes
 pub record AtLimits (c : List ℕ) : Type 0 where
   pub most_words : word_count c ≡ max_words
   pub most_values : value_count c ≡ max_values
@@ -58,7 +67,8 @@ pub record AtLimits (c : List ℕ) : Type 0 where
   pub most_messages : message_words c ≡ max_message_words
 
 abbrev pub LargestSizes : Type 0
-LargestSizes = (c : List ℕ) → depth c ≡ max_depth → exponents c ≡ replicate max_depth max_exponent → AtLimits c
+LargestSizes =
+    (c : List ℕ) → depth c ≡ max_depth → output_exponent c ≡ max_output_exponent → exponents c ≡ replicate max_depth max_exponent → AtLimits c
 
 -- all that this crate states; `proved` in `proofs/Proved` inhabits it
 pub record Theorems : Type 0 where
@@ -69,5 +79,6 @@ pub record Theorems : Type 0 where
   pub layer_by_layer : LayerByLayer
   pub wires_below : WiresBelow
   pub output_layer : OutputLayer
+  pub one_output : OneOutput
   pub legal_sizes : LegalSizes
   pub largest_sizes : LargestSizes

@@ -18,6 +18,10 @@ layers c input = layers_from (words (prime_of c)) (gate_layers c) input
 unfoldable pub values_at : List ℕ → List ℕ → ℕ → List ℕ
 values_at c input i = get_or (layers c input) i []
 
--- "the circuit's value is that of its gate in layer 0"
-unfoldable pub value : List ℕ → List ℕ → ℕ
-value c input = get_or (values_at c input 0) 0 0
+-- the circuit's outputs are the values of its gates in layer 0
+abbrev pub outputs : List ℕ → List ℕ → List ℕ
+outputs c input = values_at c input 0
+
+-- where it has one gate there, "the circuit's value is that of its gate in layer 0"
+abbrev pub value : List ℕ → List ℕ → ℕ
+value c input = get_or (outputs c input) 0 0

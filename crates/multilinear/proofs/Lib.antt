@@ -9,4 +9,5 @@ pub mod Degree
 pub mod Words
 pub mod Tables
 pub mod Slope
+pub mod Apart
 pub mod Proved

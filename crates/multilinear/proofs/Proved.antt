@@ -7,6 +7,7 @@ use Rattle.multilinear.proofs.Linear.{linear, first_fixed}
 use Rattle.multilinear.proofs.Degree.{degree_bound}
 use Rattle.multilinear.proofs.Words.{halving_on_words, at_corner_on_words, below, one_word, coefficients_below}
 use Rattle.multilinear.proofs.Tables.{listed, length_weights, folded_entry, weights_kept, folded_kept}
+use Rattle.multilinear.proofs.Apart.{stay_apart, apart_at_none, first_fixed_on_words}
 
 pub proved : Theorems
 proved = record {
@@ -28,4 +29,7 @@ proved = record {
   folded_entry = λ N. folded_entry;
   weights_kept = λ N M h. weights_kept;
   folded_kept = λ N M h. folded_kept;
+  stay_apart = stay_apart;
+  apart_at_none = apart_at_none;
+  first_fixed_on_words = first_fixed_on_words;
 }

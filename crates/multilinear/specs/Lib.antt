@@ -1,3 +1,4 @@
 pub mod Extension
 pub mod Tables
+pub mod Apart
 pub mod Theorems

@@ -8,6 +8,7 @@ use Rattle.algebra.specs.Hom.{Hom}
 use Rattle.algebra.specs.Polynomial.{value_at, constant, polynomials}
 use Rattle.multilinear.specs.Extension.{bits, extension, between, halving, corner, fold}
 use Rattle.multilinear.specs.Tables.{Listed, WeightsLength, FoldedEntry, WeightsKept, FoldedKept}
+use Rattle.multilinear.specs.Apart.{StayApart, ApartAtNone, FirstFixedOnWords}
 
 -- OVER ANY COMMUTATIVE RING
 module _ {C : Type 0} (N : Numbers C) where
@@ -103,3 +104,6 @@ pub record Theorems : Type 1 where
   pub folded_entry : {C : Type 0} (N : Numbers C) → FoldedEntry N
   pub weights_kept : {C D : Type 0} (N : Numbers C) (M : Numbers D) (h : C → D) → WeightsKept N M h
   pub folded_kept : {C D : Type 0} (N : Numbers C) (M : Numbers D) (h : C → D) → FoldedKept N M h
+  pub stay_apart : StayApart
+  pub apart_at_none : ApartAtNone
+  pub first_fixed_on_words : FirstFixedOnWords

@@ -2,14 +2,15 @@
 -- the message that passed is not the honest one, and the two agree at few points. A true claim stays true with the honest messages.
 -- Assumes nothing.
 use Prim.Native.Nat.{ℕ, zero, suc, ◌+◌, ◌-◌, ◌*◌, ◌^◌, ◌≤◌, ◌<◌, zero-le}
-use mathlib.Core.Path.{◌≡◌, refl, sym, ap, ◌∙◌, subst}
+use mathlib.Core.Path.{◌≡◌, refl, sym, ap, ap₂, ◌∙◌, subst}
 use mathlib.Core.Bool.{Bool, true, false, ◌&&◌, cond, true≢false}
-use mathlib.Core.List.{List, [], ◌∷◌, ◌++◌, map}
+use mathlib.Core.List.{List, [], ◌∷◌, ◌++◌}
 use native.Mathlib.Nat.{le_refl, le_trans, le_of_eq, not-suc-le-zero, suc-ne-zero}
 use native.Mathlib.Numerals.{add-one}
 use native.Mathlib.Omega.{arith}
 use lib.Dec.{eqb}
-use lib.ListN.{length, length-append, length-map}
+use lib.ListN.{length, length-append}
+use lib.Seq.{take_at, drop_at}
 use borrow.Author.Tests.{eq-eqb, ne_eqb, eqb-true}
 use Rattle.lists.specs.Count.{sum, count, range}
 use Rattle.lists.proofs.Count.{sum_nil, count_same, all_range}
@@ -17,26 +18,30 @@ use Rattle.algebra.proofs.Roots.{root_bound}
 use Rattle.counting.specs.Coins.{CoinList, passing}
 use Rattle.counting.specs.Doomed.{Doomed, Fails, luckless}
 use Rattle.counting.proofs.Doomed.{losses_add, losses_multiply}
+use Rattle.multilinear.specs.Apart.{Apart}
 use Rattle.refusal.specs.Order.{need}
 use Rattle.refusal.proofs.Order.{need_none}
 use Rattle.circuit.specs.Circuit.{prime_of, depth, output_exponent, exponents, exponent_at, coin_count, exponent_sum}
 use Rattle.circuit.specs.Legal.{all_below, lists_cause}
-use Rattle.circuit.specs.Values.{value}
+use Rattle.circuit.specs.Theorems.{OutputList}
+use Rattle.circuit.specs.Values.{outputs}
 use Rattle.circuit.proofs.Loading.{legal_lists}
-use Rattle.circuit.proofs.Sized.{one_output, deep}
-use Rattle.circuit.proofs.Layers.{legal_prime, all_below_lem, below_all}
+use Rattle.circuit.proofs.Sized.{deep}
+use Rattle.circuit.proofs.Layers.{legal_prime, all_below_lem, below_all, output_layer}
 use Rattle.walk.specs.Game.{passes}
 use Rattle.walk.specs.Rule.{Strategy, Fits, play, by_rule}
 use Rattle.walk.specs.Session.{Follows, Chain}
 use Rattle.walk.specs.Claims.{Sound}
 use Rattle.walk.proofs.Play.{play_doomed, play_complete}
-use Rattle.protocol.specs.Start.{first_point, later_coins, first_claim}
+use Rattle.protocol.specs.Start.{first_point, later_coins, claim_at, first_claim}
+use Rattle.protocol.specs.Shares.{message_losses, coin_losses}
 use Rattle.protocol.specs.Rounds.{Place, place, rounds_of, rounds_from, rounds, is_line, AtRound}
 use Rattle.protocol.specs.Judge.{message_at, message_length, compared, judge, input_agrees, descent}
 use Rattle.protocol.specs.Prove.{honest}
-use Rattle.protocol.proofs.Rounds.{chain_all, as_many, coins_split}
-use Rattle.protocol.proofs.Sums.{loss_of, loss_more, all_losses}
-use Rattle.protocol.proofs.Truth.{truth, loaded, honest_words, honest_compared, honest_next, some_layer, first_truth, claim_before_lem}
+use Rattle.protocol.proofs.Rounds.{chain_all, coins_split}
+use Rattle.protocol.proofs.Sums.{loss_of, loss_more, coin_losses_sum, length_losses}
+use Rattle.protocol.proofs.Outputs.{first_coins}
+use Rattle.protocol.proofs.Truth.{truth, loaded, honest_words, honest_compared, honest_next, some_layer, first_truth}
 
 -- THE JUDGEMENT, taken apart and put together
 pub judged : (c : List ℕ) (r : Place) (past : List ℕ) (claim : ℕ) (m : List ℕ) → judge c r past claim m ≡ 0
@@ -133,7 +138,7 @@ module _ (c input : List ℕ) (legal : lists_cause c input ≡ 0) where
       record { legal = whole; first = le_refl 1; last = whole.some; reached = zero-le; counted = rw sum_nil (omega arith) } in
       (subst (Chain (descent c) (rounds c)) (sym e) (chain_all c), subst (λ (l : List Place). At c l us) (sym w.1) here)
 
-  true_first : (us : List ℕ) → length us ≡ output_exponent c → truth c input (rounds c) us ≡ first_claim c (value c input) us
+  true_first : (us : List ℕ) → length us ≡ output_exponent c → truth c input (rounds c) us ≡ claim_at c (outputs c input) us
   unfolding truth
   true_first us e = ap (λ (l : List Place). truth c input l us) rounds_head.1 ∙ first_truth c input legal us e
 
@@ -177,33 +182,41 @@ module _ (c input : List ℕ) (legal : lists_cause c input ≡ 0) where
   sound : Sound (descent c) (input_agrees c input) p (loss_of c) Bad
   sound = record { lucky = lucky; few = few; stays = stays; ends = ends }
 
-  starts : (us : List ℕ) (claim : ℕ) → length us ≡ output_exponent c → ¬ (claim ≡ first_claim c (value c input) us) → Bad (rounds c) us claim
+  starts : (us : List ℕ) (claim : ℕ) → length us ≡ output_exponent c → ¬ (claim ≡ claim_at c (outputs c input) us) → Bad (rounds c) us claim
   unfolding Bad
   starts us claim e ne = (stands_first us e, λ (q : claim ≡ truth c input (rounds c) us). ne (q ∙ true_first us e))
 
   -- whether the walk from the first claim on accepts a strategy's messages
-  abbrev pub accepts : ℕ → Strategy Place → List ℕ → Bool
-  accepts y σ cs = passes (play (descent c) (input_agrees c input) σ (rounds c) (first_point c cs) (first_claim c y cs) (later_coins c cs))
+  abbrev pub accepts : List ℕ → Strategy Place → List ℕ → Bool
+  accepts ys σ cs = passes (play (descent c) (input_agrees c input) σ (rounds c) (first_point c cs) (first_claim c ys cs) (later_coins c cs))
 
-  -- what a coin list loses, coin by coin
-  abbrev pub losses : List ℕ
-  losses = map (loss_of c) (rounds c)
+  -- the coins before any message, then those of the messages
+  accepts_on : (ys : List ℕ) (σ : Strategy Place) (us : List ℕ) → length us ≡ output_exponent c → (cs : List ℕ)
+      → passes (play (descent c) (input_agrees c input) σ (rounds c) us (claim_at c ys us) cs) ≡ accepts ys σ (us ++ cs)
+  accepts_on ys σ us e cs =
+      ap₂ (λ (a b : List ℕ). passes (play (descent c) (input_agrees c input) σ (rounds c) a (claim_at c ys a) b))
+      (sym (take_at us cs (output_exponent c) e)) (sym (drop_at us cs (output_exponent c) e))
 
-  counted : length losses ≡ coin_count c
-  counted = length-map (rounds c) (loss_of c) ∙ omega (arith, one_output c, as_many c)
+  -- THE START of a false list is doomed: but for lucky first coins its first claim is false
+  pub false_outputs : (σ : Strategy Place) (ys : List ℕ) → OutputList c ys → ¬ (ys ≡ outputs c input) → Doomed p (coin_losses c) Fails (accepts ys σ)
+  unfolding claim_at
+  false_outputs σ ys listed ne =
+      let own = output_layer c input legal in
+      let apart : Apart p (output_exponent c) ys (outputs c input) =
+      record { long = listed.size; long' = own.size; small = listed.residues; small' = own.residues; differ = ne } in
+      first_coins p (legal_prime c (loaded c input legal)) (output_exponent c) ys (outputs c input) (message_losses c) (accepts ys σ) apart
+      (λ us v differ.
+          subst (Doomed p (message_losses c) Fails) (λ i cs. accepts_on ys σ us v.0 cs i)
+          (play_doomed (descent c) (input_agrees c input) p (loss_of c) Bad sound σ (rounds c) us (claim_at c ys us) (starts us (claim_at c ys us) v.0 differ)))
 
-  -- THE START of a false output is doomed. No coin comes before the first message, so that its first claim is false at once.
-  pub false_output : (σ : Strategy Place) (y : ℕ) → ¬ (y ≡ value c input) → Doomed p losses Fails (accepts y σ)
-  unfolding output_exponent first_claim
-  false_output σ y ne = play_doomed (descent c) (input_agrees c input) p (loss_of c) Bad sound σ (rounds c) [] y (starts [] y refl ne)
-
-  pub bound_of : (test : List ℕ → Bool) → Doomed p losses Fails test → passing p (coin_count c) test ≤ 5 * exponent_sum c * p ^ (coin_count c - 1)
+  pub bound_of : (test : List ℕ → Bool) → Doomed p (coin_losses c) Fails test
+      → passing p (coin_count c) test ≤ (output_exponent c + 5 * exponent_sum c) * p ^ (coin_count c - 1)
   bound_of test h =
-      subst (λ (x : ℕ). passing p (coin_count c) test ≤ x * p ^ (coin_count c - 1)) (all_losses c)
-      (subst (λ (n : ℕ). passing p n test ≤ sum losses * p ^ (n - 1)) counted (losses_add p losses test h))
+      subst (λ (x : ℕ). passing p (coin_count c) test ≤ x * p ^ (coin_count c - 1)) (coin_losses_sum c)
+      (subst (λ (n : ℕ). passing p n test ≤ sum (coin_losses c) * p ^ (n - 1)) (length_losses c) (losses_add p (coin_losses c) test h))
 
-  pub sharp_of : (test : List ℕ → Bool) → Doomed p losses Fails test → passing p (coin_count c) test + luckless p losses ≤ p ^ coin_count c
-  sharp_of test h = subst (λ (n : ℕ). passing p n test + luckless p losses ≤ p ^ n) counted (losses_multiply p losses test h)
+  pub sharp_of : (test : List ℕ → Bool) → Doomed p (coin_losses c) Fails test → passing p (coin_count c) test + luckless p (coin_losses c) ≤ p ^ coin_count c
+  sharp_of test h = subst (λ (n : ℕ). passing p n test + luckless p (coin_losses c) ≤ p ^ n) (length_losses c) (losses_multiply p (coin_losses c) test h)
 
   -- COMPLETENESS: the true claim
   Right : List Place → List ℕ → ℕ → Type 0
@@ -229,15 +242,14 @@ module _ (c input : List ℕ) (legal : lists_cause c input ≡ 0) where
   unfolding Right descent truth input_agrees
   closes past claim right = eq-eqb _ claim (sym right.1)
 
-  pub true_output : (cs : List ℕ) → CoinList p (coin_count c) cs → accepts (value c input) (by_rule (honest c input)) cs ≡ true
+  pub true_output : (cs : List ℕ) → CoinList p (coin_count c) cs → accepts (outputs c input) (by_rule (honest c input)) cs ≡ true
   unfolding Right
   true_output cs v =
       let parts = coins_split c cs v in
       let us : List ℕ = first_point c cs in
-      let start : Right (rounds c) us (first_claim c (value c input) cs) =
-      (stands_first us parts.before.0, claim_before_lem c (value c input) cs ∙ sym (true_first us parts.before.0)) in
+      let start : Right (rounds c) us (first_claim c (outputs c input) cs) = (stands_first us parts.before.0, sym (true_first us parts.before.0)) in
       ap passes (play_complete (descent c) (input_agrees c input) p (by_rule (honest c input)) Right (record { goes = goes; keeps = keeps; closes = closes })
-      (rounds c) us (first_claim c (value c input) cs) (later_coins c cs) start parts.later)
+      (rounds c) us (first_claim c (outputs c input) cs) (later_coins c cs) start parts.later)
 
   -- the honest messages have the lengths that the walk calls for
   honest_fits_from : (rs : List Place) (past cs : List ℕ) → Stands c rs past → Fits (descent c) (honest c input) rs past cs

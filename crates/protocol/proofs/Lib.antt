@@ -4,11 +4,13 @@ pub mod Sums
 pub mod Truth
 pub mod Descent
 pub mod Coins
+pub mod Outputs
 pub mod Check
 pub mod Session
 pub mod Theorems
 pub mod Places
 pub mod Refusing
 pub mod Proving
+pub mod One
 pub mod Proved
 pub mod Opening

@@ -2,7 +2,8 @@
 -- Assumes nothing.
 use Rattle.protocol.specs.Theorems.{Demand3, Theorems}
 use Rattle.protocol.proofs.Theorems.{honest_fits, whole_sound, whole_sharp, whole_complete, session_sound, session_sharp, session_complete}
-use Rattle.protocol.proofs.Theorems.{same_end, same_acceptance, no_early_coin, compared_first, honest_by_prefix}
+use Rattle.protocol.proofs.Theorems.{same_end, same_acceptance, opening_on_first, no_early_coin, compared_first, honest_by_prefix}
+use Rattle.protocol.proofs.One.{with_one_output}
 use Rattle.protocol.proofs.Refusing.{refusal_keeps}
 use Rattle.protocol.proofs.Proving.{proved_accepted, proved_in_turn, asked_accepted}
 
@@ -24,9 +25,11 @@ proved = record {
   session_sharp = session_sharp;
   same_end = same_end;
   same_acceptance = same_acceptance;
+  opening_on_first = opening_on_first;
   no_early_coin = no_early_coin;
   compared_first = compared_first;
   refusal_keeps = refusal_keeps;
   honest_by_prefix = honest_by_prefix;
   honest_fits = honest_fits;
+  with_one_output = with_one_output;
 }

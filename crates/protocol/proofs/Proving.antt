@@ -3,10 +3,10 @@
 -- Assumes nothing.
 use Prim.Native.Nat.{ℕ, zero, suc, ◌+◌, ◌≤◌, ◌<◌}
 use mathlib.Core.Path.{◌≡◌, refl, sym, ap, ap₂, ◌∙◌}
-use mathlib.Core.Bool.{Bool, true, false, cond, false≢true}
+use mathlib.Core.Bool.{Bool, true, false, ◌&&◌, cond, false≢true}
 use mathlib.Core.List.{List, [], ◌∷◌, ◌++◌}
 use native.Mathlib.Omega.{arith}
-use lib.Dec.{eqb, ltb}
+use lib.Dec.{eqb, ltb, leb}
 use lib.ListN.{length, length-append, length-take, length-drop, take, get_or}
 use lib.Seq.{length-take-le}
 use borrow.Author.Tests.{ltb-true, lt-ltb, le-leb}
@@ -19,14 +19,15 @@ use Rattle.refusal.specs.Order.{need}
 use Rattle.refusal.proofs.Order.{first_none, need_none, legal_first}
 use Rattle.circuit.specs.Circuit.{prime_of, output_exponent, coin_count, message_words}
 use Rattle.circuit.specs.Legal.{lists_cause}
-use Rattle.circuit.specs.Values.{value}
+use Rattle.circuit.specs.Values.{outputs}
 use Rattle.circuit.proofs.Layers.{below_all}
+use Rattle.circuit.proofs.Loading.{split_true}
 use Rattle.walk.specs.Game.{passes}
 use Rattle.walk.specs.Rule.{said}
 use Rattle.walk.specs.Session.{any_accepted}
 use Rattle.walk.proofs.Session.{said_sized, sized_at}
 use Rattle.protocol.specs.Start.{first_point, later_coins, coins_to}
-use Rattle.protocol.specs.Rounds.{Place, place, rounds, AtRound}
+use Rattle.protocol.specs.Rounds.{Place, place, rounds, layer_start, AtRound}
 use Rattle.protocol.specs.Judge.{message_length, descent}
 use Rattle.protocol.specs.Check.{check_answer}
 use Rattle.protocol.specs.Session.{session_on}
@@ -43,20 +44,20 @@ use Rattle.protocol.proofs.Theorems.{honest_fits, whole_complete, session_comple
 
 -- an answer that is no refusal has no cause, and these figures
 abbrev is_proved : Proof → Bool
-is_proved (proved y n) = true
+is_proved (proved ys n) = true
 is_proved (refused cause) = false
 
-abbrev output_in : Proof → ℕ
-output_in (proved y n) = y
-output_in (refused cause) = 0
+abbrev outputs_in : Proof → List ℕ
+outputs_in (proved ys n) = ys
+outputs_in (refused cause) = []
 
 abbrev words_in : Proof → ℕ
-words_in (proved y n) = n
+words_in (proved ys n) = n
 words_in (refused cause) = 0
 
-no_cause : (cause v w y n : ℕ) → proof_of cause v w ≡ proved y n → (cause ≡ 0) × (v ≡ y) × (w ≡ n)
-no_cause zero v w y n e = (refl, ap output_in e, ap words_in e)
-no_cause (suc cause) v w y n e = absurd (false≢true (ap is_proved e))
+no_cause : (cause : ℕ) (vs : List ℕ) (w : ℕ) (ys : List ℕ) (n : ℕ) → proof_of cause vs w ≡ proved ys n → (cause ≡ 0) × (vs ≡ ys) × (w ≡ n)
+no_cause zero vs w ys n e = (refl, ap outputs_in e, ap words_in e)
+no_cause (suc cause) vs w ys n e = absurd (false≢true (ap is_proved e))
 
 abbrev is_written : OneMessage → Bool
 is_written (wrote n) = true
@@ -82,9 +83,9 @@ nothing_refused c input cs buffer legal v room =
     legal_first (lists_cause c input) _ legal ∙ coins_taken c cs _ v ∙ ap (λ (b : Bool). need b 10 0) (le-leb (message_words c) (length buffer) room)
 
 module _ (c input cs buffer : List ℕ) (none : prove_cause c input cs buffer ≡ 0) where
-  pub true_answer : prove_answer c input cs buffer ≡ proved (value c input) (message_words c)
+  pub true_answer : prove_answer c input cs buffer ≡ proved (outputs c input) (message_words c)
   unfolding prove_answer
-  true_answer = ap (λ (k : ℕ). proof_of k (value c input) (message_words c)) none
+  true_answer = ap (λ (k : ℕ). proof_of k (outputs c input) (message_words c)) none
 
   its_lists : (lists_cause c input ≡ 0) × CoinList (prime_of c) (coin_count c) cs
   unfolding prove_cause
@@ -100,16 +101,16 @@ module _ (c input cs buffer : List ℕ) (none : prove_cause c input cs buffer �
       ap (λ (k : ℕ). take (message_words c) (cond (eqb k 0) (over all buffer) buffer)) none
       ∙ ap (λ (k : ℕ). take k (over all buffer)) (sym size) ∙ take_over all buffer
 
-  written_accepted : check_answer c input (value c input) cs (take (message_words c) (prove_buffer c input cs buffer)) ≡ 0
+  written_accepted : check_answer c input (outputs c input) cs (take (message_words c) (prove_buffer c input cs buffer)) ≡ 0
   written_accepted =
-      ap (check_answer c input (value c input) cs) written
-      ∙ passes_none (check_answer c input (value c input) cs _) (whole_complete c input its_lists.0 cs its_lists.1)
+      ap (check_answer c input (outputs c input) cs) written
+      ∙ passes_none (check_answer c input (outputs c input) cs _) (whole_complete c input its_lists.0 cs its_lists.1)
 
 pub proved_accepted : ProvedAccepted
 unfolding prove_answer
-proved_accepted c input cs buffer y n e =
-    let told = no_cause (prove_cause c input cs buffer) (value c input) (message_words c) y n e in
-    ap₂ (λ (v k : ℕ). check_answer c input v cs (take k (prove_buffer c input cs buffer))) (sym told.1) (sym told.2)
+proved_accepted c input cs buffer ys n e =
+    let told = no_cause (prove_cause c input cs buffer) (outputs c input) (message_words c) ys n e in
+    ap₂ (λ (vs : List ℕ) (k : ℕ). check_answer c input vs cs (take k (prove_buffer c input cs buffer))) (sym told.1) (sym told.2)
     ∙ written_accepted c input cs buffer told.0
 
 pub proved_in_turn : ProvedInTurn
@@ -118,10 +119,10 @@ proved_in_turn c input cs buffer j n size e =
     let prefix : List ℕ = coins_to c j cs in
     let told = no_cause_one (prove_one_cause c input prefix buffer) (message_length c (place_of c prefix)) n e in
     let lists = first_none (lists_cause c input) _ told.0 in
-    let few = need_none (ltb (length prefix) (coin_count c)) 10 _ lists.1 in
+    let inside = split_true (leb (output_exponent c) (length prefix)) _ (need_none (leb (output_exponent c) (length prefix) && ltb (length prefix) (coin_count c)) 10 _ lists.1).0 in
     let k : ℕ = output_exponent c in
     let many = as_many c in
-    let short : k + j < coin_count c = omega (arith, ltb-true (length prefix) (coin_count c) few.0, length-take (k + j) cs, size) in
+    let short : k + j < coin_count c = omega (arith, ltb-true (length prefix) (coin_count c) inside.1, length-take (k + j) cs, size) in
     let counted : length prefix ≡ k + j = length-take-le (k + j) cs (omega arith) in
     let later : length (later_coins c cs) ≡ length (rounds c) = length-drop k cs ∙ omega arith in
     let sized = said_sized (descent c) (honest c input) (rounds c) (first_point c cs) (later_coins c cs)
@@ -134,6 +135,14 @@ proved_in_turn c input cs buffer j n size e =
           ∙ ap (λ (m : List ℕ). over m buffer) (sym (honest_by_prefix c input cs j size short));
     }
 
+-- a round comes after the coins before any message
+after_first : {c : List ℕ} {r : Place} {n : ℕ} → AtRound c r n → output_exponent c ≤ n
+after_first {c} {r} {n} here = go r.layer here.first here.counted
+  where
+    go : (i : ℕ) → 1 ≤ i → n ≡ layer_start c i + r.round → output_exponent c ≤ n
+    go zero first e = absurd (omega arith)
+    go (suc l) first e = omega arith
+
 -- ASKED ONE BY ONE, Prove writes the honest message at each round
 module _ (c input : List ℕ) (legal : lists_cause c input ≡ 0) (buffer : List ℕ → List ℕ) (room : Roomy c buffer) where
   asked_at : (r : Place) (past : List ℕ) → AtRound c r (length past) → length past < coin_count c → All (λ t. t < prime_of c) past
@@ -144,7 +153,7 @@ module _ (c input : List ℕ) (legal : lists_cause c input ≡ 0) (buffer : List
       let m : List ℕ = honest c input (place_of c past) past in
       let name = named c past r here in
       let none : prove_one_cause c input past (buffer past) ≡ 0 =
-      simp (legal, lt-ltb (length past) (coin_count c) few, below_all (prime_of c) past below, le-leb w (length (buffer past)) (room past)) in
+      simp (legal, le-leb (output_exponent c) (length past) (after_first here), lt-ltb (length past) (coin_count c) few, below_all (prime_of c) past below, le-leb w (length (buffer past)) (room past)) in
       let long : length m ≡ w = ap (λ (q : Place). length (honest c input q past)) name ∙ (honest_words c input legal r past here).0 ∙ ap (message_length c) (sym name) in
       ap₂ message_in (ap (λ (k : ℕ). one_of k w) none) (ap (λ (k : ℕ). cond (eqb k 0) (over m (buffer past)) (buffer past)) none)
       ∙ ap (λ (k : ℕ). take k (over m (buffer past))) (sym long)
@@ -172,6 +181,6 @@ module _ (c input : List ℕ) (legal : lists_cause c input ≡ 0) (buffer : List
 
 pub asked_accepted : AskedAccepted
 asked_accepted c input legal buffer room cs v =
-    ap (λ (ms : List (List ℕ)). any_accepted (session_on c input (value c input) cs ms))
+    ap (λ (ms : List (List ℕ)). any_accepted (session_on c input (outputs c input) cs ms))
     (asked_same c input legal buffer room cs v)
     ∙ session_complete c input legal cs v

@@ -1,21 +1,23 @@
 -- Sums over the rounds of a circuit, layer by layer: the words of all messages, and the losses.
 -- Assumes nothing.
 use Prim.Native.Nat.{ℕ, zero, suc, ◌+◌, ◌-◌, ◌*◌}
-use mathlib.Core.Path.{◌≡◌, refl, sym, ap, ◌∙◌, subst}
+use mathlib.Core.Path.{◌≡◌, refl, sym, ap, ap₂, ◌∙◌, subst}
 use mathlib.Core.Bool.{Bool, true, false, cond}
 use mathlib.Core.List.{List, [], ◌∷◌, ◌++◌, map, append_assoc}
 use native.Mathlib.Nat.{add-zero}
 use native.Mathlib.Numerals.{add-one}
 use native.Mathlib.Omega.{arith}
-use lib.ListN.{length, length-append, get_or}
+use lib.ListN.{length, length-append, length-map, length-replicate, replicate, get_or}
 use lib.Seq.{get_or-append_seam}
 use borrow.Author.Tests.{eq-eqb, ne_eqb}
 use Rattle.lists.specs.Count.{sum}
 use Rattle.lists.proofs.Count.{sum_nil, sum_cons, sum_append, sum_scale}
 use Rattle.lists.proofs.Map.{map_append, map_same, map_id}
-use Rattle.circuit.specs.Circuit.{exponents, exponent_at, message_words, exponent_sum}
+use Rattle.circuit.specs.Circuit.{output_exponent, exponents, exponent_at, coin_count, message_words, exponent_sum}
 use Rattle.protocol.specs.Rounds.{Place, place, rounds_of, rounds_from, rounds, is_line}
 use Rattle.protocol.specs.Judge.{message_length}
+use Rattle.protocol.specs.Shares.{message_losses, coin_losses}
+use Rattle.protocol.proofs.Rounds.{as_many}
 
 module _ (c : List ℕ) (a : ℕ) (g : ℕ → ℕ) where
   -- a for a sum round, g of the exponent for a line
@@ -75,7 +77,7 @@ loss_more c r = go (is_line c r) (exponent_at c r.layer)
     go false k = omega arith
 
 -- 5 k_i a layer
-pub all_losses : (c : List ℕ) → sum (map (loss_of c) (rounds c)) ≡ 5 * exponent_sum c
+all_losses : (c : List ℕ) → sum (map (loss_of c) (rounds c)) ≡ 5 * exponent_sum c
 unfolding message_length exponent_sum
 all_losses c =
     let ks : List ℕ = exponents c in
@@ -83,3 +85,17 @@ all_losses c =
     ∙ sum_from_lem c 2 (λ k. k) [] ks refl
     ∙ ap sum (map_same (λ k. 2 * k * 2 + k) (λ k. k * 5) ks (λ k. omega arith))
     ∙ sum_scale 5 (λ k. k) ks ∙ ap (λ (l : List ℕ). sum l * 5) (map_id (λ k. k) ks (λ k. refl)) ∙ omega arith
+
+-- k_0 coins before any message, one each
+sum_ones : (k : ℕ) → sum (replicate k 1) ≡ k
+sum_ones zero = sum_nil
+sum_ones (suc k) = sum_cons 1 (replicate k 1) ∙ omega (arith, sum_ones k)
+
+module _ (c : List ℕ) where
+  pub coin_losses_sum : sum (coin_losses c) ≡ output_exponent c + 5 * exponent_sum c
+  coin_losses_sum = sum_append (replicate (output_exponent c) 1) (message_losses c) ∙ ap₂ ◌+◌ (sum_ones (output_exponent c)) (all_losses c)
+
+  pub length_losses : length (coin_losses c) ≡ coin_count c
+  length_losses =
+      length-append (replicate (output_exponent c) 1) (message_losses c)
+      ∙ ap₂ ◌+◌ (length-replicate (output_exponent c) 1) (length-map (rounds c) (loss_of c)) ∙ as_many c

@@ -5,7 +5,7 @@ use Prim.Native.Nat.{ℕ, zero, suc, ◌+◌, ◌-◌, ◌*◌, ◌≤◌, ◌<�
 use mathlib.Core.Path.{◌≡◌, refl, sym, ap, ap₂, ◌∙◌, subst}
 use mathlib.Core.Bool.{Bool, true, false, ◌&&◌, cond, true≢false, false≢true}
 use mathlib.Core.List.{List, [], ◌∷◌, ◌++◌, append-nil}
-use native.Mathlib.Nat.{not-suc-le-zero, suc-ne-zero}
+use native.Mathlib.Nat.{not-suc-le-zero}
 use native.Mathlib.Numerals.{add-one}
 use native.Mathlib.Omega.{arith}
 use lib.Dec.{eqb}
@@ -16,34 +16,24 @@ use Rattle.lists.specs.Each.{All}
 use Rattle.lists.proofs.Count.{sum_nil}
 use Rattle.algebra.specs.Numbers.{words}
 use Rattle.multilinear.specs.Extension.{extension}
-use Rattle.multilinear.proofs.Words.{one_word}
+use Rattle.multilinear.proofs.Words.{below}
 use Rattle.refusal.proofs.Order.{first_none}
 use Rattle.circuit.specs.Gate.{Gate}
 use Rattle.circuit.specs.Circuit.{prime_of, depth, output_exponent, exponents, exponent_at, gates_at}
 use Rattle.circuit.specs.Legal.{load_answer, lists_cause}
-use Rattle.circuit.specs.Values.{values_at, value}
+use Rattle.circuit.specs.Values.{values_at, outputs}
 use Rattle.circuit.proofs.Loading.{legal_lists}
 use Rattle.circuit.proofs.Sized.{deep}
-use Rattle.circuit.proofs.Layers.{legal_prime, layer_sizes, last_layer, layer_by_layer, wires_below_next, output_layer, value_below}
+use Rattle.circuit.proofs.Layers.{legal_prime, layer_sizes, last_layer, layer_by_layer, wires_below_next}
 use Rattle.sumcheck.specs.Summand.{combined, summand, cube, partial_sum}
 use Rattle.sumcheck.proofs.Words.{layer_identity, sum_of_two, sum_message_value, line_message_value, line_ends, sum_message_words, line_message_words}
 use Rattle.walk.specs.Session.{Follows}
-use Rattle.protocol.specs.Start.{first_point, first_claim}
+use Rattle.protocol.specs.Start.{first_point, claim_at}
 use Rattle.protocol.specs.Rounds.{Place, place, layer_start, is_line, AtRound}
 use Rattle.protocol.specs.Judge.{fixed, point_at, gates_above, line_claim, message_at, message_length, compared, descent}
 use Rattle.protocol.specs.Prove.{honest}
 use Rattle.protocol.proofs.Rounds.{within}
 use Rattle.protocol.proofs.Points.{fixed_more, fixed_none, point_more, point_line}
-
--- the first claim rests on the coins before any message alone
-pub claim_before_lem : (c : List ℕ) (y : ℕ) (cs : List ℕ) → first_claim c y cs ≡ first_claim c y (first_point c cs)
-unfolding first_claim
-claim_before_lem c y cs = refl
-
--- and is a residue where the output is one
-pub claim_below : (c : List ℕ) (y : ℕ) (cs : List ℕ) → y < prime_of c → first_claim c y cs < prime_of c
-unfolding first_claim
-claim_below c y cs h = h
 
 module _ (c input : List ℕ) where
   -- the true claim at a round, and after the last
@@ -225,19 +215,18 @@ module _ (c input : List ℕ) (legal : lists_cause c input ≡ 0) where
       → message_at c (honest c input r past) t ≡ truth c input rs (past ++ (t ∷ []))
   honest_next r rs past t h f = next_at past r.layer r.round t (is_line c r) rs refl h f
 
-  -- there is a layer, and after the coins before its first round the true claim is the first claim of the circuit's value
+  -- a claim of any outputs is a residue
+  pub claim_below : (ys us : List ℕ) → claim_at c ys us < prime_of c
+  unfolding claim_at
+  claim_below ys us = below (prime_of c) positive ys us
+
+  -- there is a layer, and after the coins before its first round the true claim is that of the circuit's outputs
   pub some_layer : 0 < length (exponents c)
   some_layer = subst (λ (d : ℕ). 0 < d) (sym (deep c (legal_lists c input legal).circuit)) (legal_lists c input legal).circuit.some
 
-  -- the values above layer 1 are the output, whose extension at the first point is its first claim
-  output_claim : (us : List ℕ) → length us ≡ output_exponent c → extension (words (prime_of c)) (values_at c input 0) us ≡ first_claim c (value c input) us
-  unfolding output_exponent first_claim
-  output_claim [] e = ap (λ (vs : List ℕ). extension (words (prime_of c)) vs []) (output_layer c input legal) ∙ one_word (prime_of c) (value c input) (value_below c input legal)
-  output_claim (u ∷ us) e = absurd (suc-ne-zero _ e)
-
-  pub first_truth : (us : List ℕ) → length us ≡ output_exponent c → truth_at c input (place 1 0) us ≡ first_claim c (value c input) us
-  unfolding truth_at
+  pub first_truth : (us : List ℕ) → length us ≡ output_exponent c → truth_at c input (place 1 0) us ≡ claim_at c (outputs c input) us
+  unfolding truth_at claim_at
   first_truth us e =
       let none : fixed c 1 us ≡ [] = drop_of_length-le us {i = layer_start c 1} (omega (arith, sum_nil)) in
       let all : first_point c us ≡ us = take_all (output_exponent c) us (omega arith) in
-      rw (none, all) (layer_sum_lem 0 us some_layer) ∙ output_claim us e
+      rw (none, all) (layer_sum_lem 0 us some_layer)

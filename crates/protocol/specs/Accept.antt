@@ -18,9 +18,13 @@ use Rattle.protocol.specs.Prove.{messages_on, transcript}
 abbrev pub FitsCircuit : List ℕ → Rule Place → Type 0
 FitsCircuit c rule = (cs : List ℕ) → CoinList (prime_of c) (coin_count c) cs → Fits (descent c) rule (rounds c) (first_point c cs) (later_coins c cs)
 
-abbrev pub whole_accepts : List ℕ → List ℕ → ℕ → Rule Place → List ℕ → Bool
-whole_accepts c input y rule cs = passes (check_answer c input y cs (transcript c rule cs))
+-- acceptance of a coin list, for a circuit, an input, outputs and a rule
+abbrev pub Acceptance : Type 0
+Acceptance = List ℕ → List ℕ → List ℕ → Rule Place → List ℕ → Bool
+
+abbrev pub whole_accepts : Acceptance
+whole_accepts c input ys rule cs = passes (check_answer c input ys cs (transcript c rule cs))
 
 -- an opening, then a step for each message from the record that it gave, refused ones among them
-abbrev pub session_accepts : List ℕ → List ℕ → ℕ → Rule Place → List ℕ → Bool
-session_accepts c input y rule cs = any_accepted (session_on c input y cs (messages_on c rule cs))
+abbrev pub session_accepts : Acceptance
+session_accepts c input ys rule cs = any_accepted (session_on c input ys cs (messages_on c rule cs))

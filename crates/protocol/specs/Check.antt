@@ -1,13 +1,17 @@
--- Check, whole: "It refuses by 1 to 9, 13, 11, 12, then 14 where the message words are not the exact total." Then comes the walk.
+-- Check, whole: "It refuses by 1 to 9", 21, 13, 11 and 12, "then 14 where the message words are not the exact total." Then comes the walk.
 -- Assumes nothing.
-use Rattle.std.specs.Prelude.{ℕ, ◌≡◌, List, eqb, ltb, length}
+use Rattle.std.specs.Prelude.{ℕ, ◌^◌, ◌≡◌, List, eqb, length}
 use Rattle.refusal.specs.Order.{need, first}
-use Rattle.circuit.specs.Circuit.{prime_of, coin_count, message_words}
+use Rattle.circuit.specs.Circuit.{prime_of, output_exponent, coin_count, message_words}
 use Rattle.circuit.specs.Legal.{all_below, lists_cause}
 use Rattle.walk.specs.Game.{walk}
 use Rattle.protocol.specs.Start.{first_point, later_coins, first_claim}
 use Rattle.protocol.specs.Rounds.{rounds}
 use Rattle.protocol.specs.Judge.{descent, input_agrees}
+
+-- 21 "the output list hasn't 2^k_0 words", 13 for any of its words that is not below p, then the rest
+abbrev pub need_outputs : List ℕ → List ℕ → ℕ → ℕ
+need_outputs c ys rest = need (eqb (length ys) (2 ^ output_exponent c)) 21 (need (all_below (prime_of c) ys) 13 rest)
 
 -- 11 "the coin count is not n", 12 "a coin is not below p", then the rest
 abbrev pub need_coins : List ℕ → List ℕ → ℕ → ℕ
@@ -23,10 +27,10 @@ abbrev pub walk_from : List ℕ → List ℕ → ℕ → List ℕ → List ℕ �
 walk_from c input claim cs ms = walk (descent c) (input_agrees c input) (rounds c) (first_point c cs) claim ms (later_coins c cs)
 
 -- 0 where it accepts, else the refusal's number
-unfoldable pub check_answer : List ℕ → List ℕ → ℕ → List ℕ → List ℕ → ℕ
-check_answer c input y cs ms =
+unfoldable pub check_answer : List ℕ → List ℕ → List ℕ → List ℕ → List ℕ → ℕ
+check_answer c input ys cs ms =
     first (lists_cause c input)
-    (need (ltb y (prime_of c)) 13
+    (need_outputs c ys
     (need_coins c cs
     (need (eqb (length ms) (message_words c)) 14
-    (walk_from c input (first_claim c y cs) cs ms))))
+    (walk_from c input (first_claim c ys cs) cs ms))))

@@ -6,4 +6,5 @@ pub mod Session
 pub mod Prove
 pub mod Shares
 pub mod Accept
+pub mod One
 pub mod Theorems

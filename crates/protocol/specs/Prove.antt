@@ -1,13 +1,13 @@
 -- The honest messages, and both forms of Prove.
 -- Assumes nothing.
-use Rattle.std.specs.Prelude.{ℕ, zero, suc, ◌-◌, ◌≤◌, cond, eqb, ltb, leb, length, take, drop, get_or}
+use Rattle.std.specs.Prelude.{ℕ, zero, suc, ◌-◌, ◌≤◌, ◌&&◌, cond, eqb, ltb, leb, length, take, drop, get_or}
 use mathlib.Core.List.{List, [], flatten}
 use Rattle.lists.specs.Buffer.{over}
 use Rattle.algebra.specs.Numbers.{words}
 use Rattle.refusal.specs.Order.{need, first}
 use Rattle.circuit.specs.Circuit.{prime_of, output_exponent, exponent_at, coin_count, message_words}
 use Rattle.circuit.specs.Legal.{all_below, lists_cause}
-use Rattle.circuit.specs.Values.{values_at, value}
+use Rattle.circuit.specs.Values.{values_at, outputs}
 use Rattle.sumcheck.specs.Message.{sum_message, line_message}
 use Rattle.walk.specs.Rule.{Rule, said}
 use Rattle.protocol.specs.Start.{first_point, later_coins}
@@ -35,27 +35,27 @@ messages_on c rule cs = said rule (rounds c) (first_point c cs) (later_coins c c
 unfoldable pub transcript : List ℕ → Rule Place → List ℕ → List ℕ
 transcript c rule cs = flatten (messages_on c rule cs)
 
--- Prove, whole: "It refuses by 1 to 9, 11, 12, then 10 where the buffer is shorter than all message words. Otherwise it answers the output and
+-- Prove, whole: "It refuses by 1 to 9, 11, 12, then 10 where the buffer is shorter than all message words. Otherwise it answers the" outputs "and
 -- the number of words written; each honest message is written directly after the one before it, the rest unchanged."
 pub data Proof : Type 0 where
-  proved : ℕ → ℕ → Proof
+  proved : List ℕ → ℕ → Proof
   refused : ℕ → Proof
 
 unfoldable pub prove_cause : List ℕ → List ℕ → List ℕ → List ℕ → ℕ
 prove_cause c input cs buffer = first (lists_cause c input) (need_coins c cs (need (leb (message_words c) (length buffer)) 10 0))
 
-abbrev pub proof_of : ℕ → ℕ → ℕ → Proof
-proof_of zero y n = proved y n
-proof_of (suc cause) y n = refused (suc cause)
+abbrev pub proof_of : ℕ → List ℕ → ℕ → Proof
+proof_of zero ys n = proved ys n
+proof_of (suc cause) ys n = refused (suc cause)
 
 unfoldable pub prove_answer : List ℕ → List ℕ → List ℕ → List ℕ → Proof
-prove_answer c input cs buffer = proof_of (prove_cause c input cs buffer) (value c input) (message_words c)
+prove_answer c input cs buffer = proof_of (prove_cause c input cs buffer) (outputs c input) (message_words c)
 
 unfoldable pub prove_buffer : List ℕ → List ℕ → List ℕ → List ℕ → List ℕ
 prove_buffer c input cs buffer =
     cond (eqb (prove_cause c input cs buffer) 0) (over (transcript c (honest c input) cs) buffer) buffer
 
--- Prove, one message: "It refuses by 1 to 9, by 11 where the prefix has n coins or more, by 12, then by 10 where the buffer is shorter than this
+-- Prove, one message: "It refuses by 1 to 9, by 11 where the prefix has n coins or more", or fewer than k_0, "by 12, then by 10 where the buffer is shorter than this
 -- message. Otherwise it writes the honest message that follows the prefix at the buffer's start, leaves the rest and answers its word count."
 abbrev pub place_of : List ℕ → List ℕ → Place
 place_of c prefix = get_or (rounds c) (length prefix - output_exponent c) (place 0 0)
@@ -63,7 +63,7 @@ place_of c prefix = get_or (rounds c) (length prefix - output_exponent c) (place
 unfoldable pub prove_one_cause : List ℕ → List ℕ → List ℕ → List ℕ → ℕ
 prove_one_cause c input prefix buffer =
     first (lists_cause c input)
-    (need (ltb (length prefix) (coin_count c)) 11
+    (need (leb (output_exponent c) (length prefix) && ltb (length prefix) (coin_count c)) 11
     (need (all_below (prime_of c) prefix) 12
     (need (leb (message_length c (place_of c prefix)) (length buffer)) 10 0)))
 

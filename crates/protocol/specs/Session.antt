@@ -5,28 +5,29 @@ use Rattle.refusal.specs.Order.{need, first}
 use Rattle.circuit.specs.Circuit.{prime_of, exponents, exponent_at}
 use Rattle.circuit.specs.Legal.{lists_cause}
 use Rattle.walk.specs.Session.{Answer, refused, Record, at, ended, step}
-use Rattle.protocol.specs.Start.{first_claim}
+use Rattle.protocol.specs.Start.{first_point, first_claim}
 use Rattle.protocol.specs.Rounds.{Place, place}
 use Rattle.protocol.specs.Judge.{descent, input_agrees}
-use Rattle.protocol.specs.Check.{need_coins}
+use Rattle.protocol.specs.Check.{need_outputs, need_coins}
 
--- Open session: "It refuses by 1 to 9, 13, 11, 12." "The record has layer 1, round 0, the output as claim, and is open."
-unfoldable pub open_cause : List ℕ → List ℕ → ℕ → List ℕ → ℕ
-open_cause c input y cs = first (lists_cause c input) (need (ltb y (prime_of c)) 13 (need_coins c cs 0))
+-- Open session: "It refuses by 1 to 9", 21, 13, 11 and 12. "The record has layer 1, round 0", the first claim, "and is open."
+unfoldable pub open_cause : List ℕ → List ℕ → List ℕ → List ℕ → ℕ
+open_cause c input ys cs = first (lists_cause c input) (need_outputs c ys (need_coins c cs 0))
 
-abbrev pub opened_at : List ℕ → ℕ → List ℕ → Record Place
-opened_at c y cs = at (place 1 0) (first_claim c y cs)
+abbrev pub opened_at : List ℕ → List ℕ → List ℕ → Record Place
+opened_at c ys cs = at (place 1 0) (first_claim c ys cs)
 
+-- an opening gives the coins before any message and the record: "Opening hands them out."
 pub data OpenAnswer : Type 0 where
-  opens : Record Place → OpenAnswer
+  opens : List ℕ → Record Place → OpenAnswer
   refuses : ℕ → OpenAnswer
 
-abbrev pub opened_by : ℕ → Record Place → OpenAnswer
-opened_by zero s = opens s
-opened_by (suc cause) s = refuses (suc cause)
+abbrev pub opened_by : ℕ → List ℕ → Record Place → OpenAnswer
+opened_by zero us s = opens us s
+opened_by (suc cause) us s = refuses (suc cause)
 
-unfoldable pub open_answer : List ℕ → List ℕ → ℕ → List ℕ → OpenAnswer
-open_answer c input y cs = opened_by (open_cause c input y cs) (opened_at c y cs)
+unfoldable pub open_answer : List ℕ → List ℕ → List ℕ → List ℕ → OpenAnswer
+open_answer c input ys cs = opened_by (open_cause c input ys cs) (first_point c cs) (opened_at c ys cs)
 
 -- 19 "the record is ended, its layer or round is outside this circuit, or its claim is not below p"
 unfoldable pub record_fits : List ℕ → Record Place → Bool
@@ -62,8 +63,8 @@ steps c input cs s (m ∷ ms) = (step_answer c input cs s m).0 ∷ steps c input
 
 -- a session's answers after its opening: steps from the record that is in the opening's answer, none where it refuses
 abbrev pub steps_from : List ℕ → List ℕ → List ℕ → OpenAnswer → List (List ℕ) → List Answer
-steps_from c input cs (opens s) ms = steps c input cs s ms
+steps_from c input cs (opens us s) ms = steps c input cs s ms
 steps_from c input cs (refuses cause) ms = []
 
-abbrev pub session_on : List ℕ → List ℕ → ℕ → List ℕ → List (List ℕ) → List Answer
-session_on c input y cs ms = steps_from c input cs (open_answer c input y cs) ms
+abbrev pub session_on : List ℕ → List ℕ → List ℕ → List ℕ → List (List ℕ) → List Answer
+session_on c input ys cs ms = steps_from c input cs (open_answer c input ys cs) ms

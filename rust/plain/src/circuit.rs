@@ -6,19 +6,21 @@ use crate::refusal::{self, require};
 
 const MOST_LAYERS: usize = 12;
 const MOST_EXPONENT: u32 = 8;
+const MOST_OUTPUT_EXPONENT: u32 = 4;
 
 /// The gates of the widest layer.
 pub(crate) const MOST_WIDTH: usize = 1 << MOST_EXPONENT;
 
 /// All gate and input words of the largest circuit.
-pub(crate) const MOST_VALUES: usize = 1 + MOST_LAYERS * MOST_WIDTH;
+pub(crate) const MOST_VALUES: usize = (1 << MOST_OUTPUT_EXPONENT) + MOST_LAYERS * MOST_WIDTH;
 
-/// The words of the largest circuit's list: prime, depth, exponents, and three for each gate.
-pub(crate) const MOST_LIST_WORDS: usize = 2 + MOST_LAYERS + 3 * (MOST_VALUES - MOST_WIDTH);
+/// The words of the largest circuit's list: prime, depth, an exponent for each layer, and three for each gate.
+pub(crate) const MOST_LIST_WORDS: usize = 2 + (MOST_LAYERS + 1) + 3 * (MOST_VALUES - MOST_WIDTH);
 
 /// A legal circuit, over the words of its list.
 pub(crate) struct Circuit<'a> {
     pub(crate) field: Field,
+    /// Of all layers, from the output to the input.
     exponents: &'a [u32],
     gates: &'a [Gate],
     /// Where each layer's values begin; the entry after the input is the number of all values.
@@ -39,14 +41,14 @@ pub fn load(circuit: &[u32]) -> Result<(), u32> {
 
 impl<'a> Circuit<'a> {
     pub(crate) fn parse(words: &'a [u32]) -> Result<Self, u32> {
-        let [prime, depth, rest @ ..] = words else {
+        let [prime, depth, output_exponent, ..] = *words else {
             return Err(refusal::NO_HEAD);
         };
-        let field = Field::listed(*prime).ok_or(refusal::PRIME)?;
-        let depth = *depth as usize;
+        let field = Field::listed(prime).ok_or(refusal::PRIME)?;
+        let depth = depth as usize;
         require((1..=MOST_LAYERS).contains(&depth), refusal::DEPTH)?;
-        require(rest.len() >= depth, refusal::EXPONENT)?;
-        let (exponents, rest) = rest.split_at(depth);
+        require(output_exponent <= MOST_OUTPUT_EXPONENT, refusal::EXPONENT)?;
+        let (exponents, rest) = words[2..].split_at_checked(depth + 1).ok_or(refusal::EXPONENT)?;
         require(exponents.iter().all(|&k| k <= MOST_EXPONENT), refusal::EXPONENT)?;
         let starts = layer_starts(exponents);
         require(rest.len() == 3 * starts[depth], refusal::CIRCUIT_LENGTH)?;
@@ -69,22 +71,24 @@ impl<'a> Circuit<'a> {
         Ok(circuit)
     }
 
-    /// The whole coin list: one residue for each message.
+    /// The output list: one residue for each gate of layer 0.
+    pub(crate) fn check_outputs(&self, outputs: &[u32]) -> Result<(), u32> {
+        require(outputs.len() == self.width(0), refusal::OUTPUT_COUNT)?;
+        require(self.field.holds_all(outputs), refusal::OUTPUT_WORD)
+    }
+
+    /// The whole coin list: one residue for each coordinate of the first point, then one for each message.
     pub(crate) fn check_coins(&self, coins: &[u32]) -> Result<(), u32> {
-        require(coins.len() == self.messages(), refusal::COIN_COUNT)?;
+        require(coins.len() == self.coins(), refusal::COIN_COUNT)?;
         require(self.field.holds_all(coins), refusal::COIN_WORD)
     }
 
     pub(crate) fn depth(&self) -> usize {
-        self.exponents.len()
+        self.exponents.len() - 1
     }
 
     pub(crate) fn exponent(&self, layer: usize) -> usize {
-        if layer == 0 {
-            0
-        } else {
-            self.exponents[layer - 1] as usize
-        }
+        self.exponents[layer] as usize
     }
 
     fn width(&self, layer: usize) -> usize {
@@ -110,24 +114,25 @@ impl<'a> Circuit<'a> {
         &values[self.starts[layer]..self.starts[layer + 1]]
     }
 
-    /// The number of messages, and of coins.
-    pub(crate) fn messages(&self) -> usize {
+    /// The number of coins.
+    fn coins(&self) -> usize {
         self.first_coin(self.depth() + 1)
     }
 
     /// The words of all messages.
     pub(crate) fn message_words(&self) -> usize {
-        self.exponents.iter().map(|&k| 7 * k as usize + 1).sum()
+        self.exponents[1..].iter().map(|&k| 7 * k as usize + 1).sum()
     }
 
-    /// The number of coins before those of the layer.
+    /// The number of coins before those of the layer's messages: the first point's, then one for each message above.
     pub(crate) fn first_coin(&self, layer: usize) -> usize {
-        self.exponents[..layer - 1].iter().map(|&k| 2 * k as usize + 1).sum()
+        let messages: usize = self.exponents[1..layer].iter().map(|&k| 2 * k as usize + 1).sum();
+        self.exponent(0) + messages
     }
 
     /// The place of the message that follows so many coins, if there is one.
     pub(crate) fn place(&self, coins: usize) -> Option<Place> {
-        let mut round = coins;
+        let mut round = coins.checked_sub(self.first_coin(1))?;
         for layer in 1..=self.depth() {
             let rounds = 2 * self.exponent(layer) + 1;
             if round < rounds {
@@ -154,9 +159,8 @@ impl<'a> Circuit<'a> {
 
 fn layer_starts(exponents: &[u32]) -> [usize; MOST_LAYERS + 2] {
     let mut starts = [0; MOST_LAYERS + 2];
-    starts[1] = 1;
     for (layer, &k) in exponents.iter().enumerate() {
-        starts[layer + 2] = starts[layer + 1] + (1 << k);
+        starts[layer + 1] = starts[layer] + (1 << k);
     }
     starts
 }

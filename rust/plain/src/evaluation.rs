@@ -4,18 +4,18 @@ use crate::circuit::{Circuit, MOST_VALUES};
 use crate::gate;
 use crate::refusal::{self, require};
 
-/// Answers the output; the buffer then begins with the values of layers 0 to D.
-pub fn evaluate(circuit: &[u32], input: &[u32], buffer: &mut [u32]) -> Result<u32, u32> {
+/// Answers the outputs; the buffer then begins with the values of layers 0 to D.
+pub fn evaluate(circuit: &[u32], input: &[u32], buffer: &mut [u32]) -> Result<Vec<u32>, u32> {
     let circuit = Circuit::with_input(circuit, input)?;
     let words = circuit.values();
     require(buffer.len() >= words, refusal::BUFFER)?;
     let mut values = [0; MOST_VALUES];
     fill(&circuit, input, &mut values);
     buffer[..words].copy_from_slice(&values[..words]);
-    Ok(values[0])
+    Ok(circuit.layer_values(&values, 0).to_vec())
 }
 
-/// Fills in the values of all layers, from the input up; the output comes first.
+/// Fills in the values of all layers, from the input up; the outputs come first.
 pub(crate) fn fill(circuit: &Circuit, input: &[u32], values: &mut [u32; MOST_VALUES]) {
     let field = circuit.field;
     values[circuit.start(circuit.depth())..circuit.values()].copy_from_slice(input);

@@ -21,6 +21,11 @@ impl Point {
     }
 }
 
+/// The point on layer 0, which is the coins before any message.
+pub(crate) fn first_point<'a>(circuit: &Circuit, coins: &'a [u32]) -> &'a [u32] {
+    &coins[..circuit.exponent(0)]
+}
+
 /// The two points of a layer, which are its coins: u, then v.
 pub(crate) fn ends<'a>(circuit: &Circuit, coins: &'a [u32], layer: usize) -> (&'a [u32], &'a [u32]) {
     let k = circuit.exponent(layer);
@@ -28,17 +33,20 @@ pub(crate) fn ends<'a>(circuit: &Circuit, coins: &'a [u32], layer: usize) -> (&'
     coins[first..first + 2 * k].split_at(k)
 }
 
-/// The point on a layer after its line's coin; the empty point on layer 0.
+/// The point where the claim on a layer stands: the first point, or the line's at its coin.
 pub(crate) fn point_on(circuit: &Circuit, coins: &[u32], layer: usize) -> Point {
-    let mut point = Point { coordinates: [0; MOST_COORDINATES], count: circuit.exponent(layer) };
-    if layer > 0 {
+    let count = circuit.exponent(layer);
+    let mut coordinates = [0; MOST_COORDINATES];
+    if layer == 0 {
+        coordinates[..count].copy_from_slice(first_point(circuit, coins));
+    } else {
         let (u, v) = ends(circuit, coins, layer);
-        let t = coins[circuit.first_coin(layer) + 2 * point.count];
-        for (z, (&u, &v)) in point.coordinates.iter_mut().zip(u.iter().zip(v)) {
+        let t = coins[circuit.first_coin(layer) + 2 * count];
+        for (z, (&u, &v)) in coordinates.iter_mut().zip(u.iter().zip(v)) {
             *z = circuit.field.between(u, v, t);
         }
     }
-    point
+    Point { coordinates, count }
 }
 
 /// The weight of an index at a point, the highest bit belonging to the first coordinate.

@@ -7,15 +7,15 @@ use crate::field::Field;
 use crate::gate::{self, EMPTY};
 use crate::refusal::{self, require};
 
-/// Writes all messages and answers the output and the words written.
-pub fn prove(circuit: &[u32], input: &[u32], coins: &[u32], messages: &mut [u32]) -> Result<(u32, usize), u32> {
+/// Writes all messages and answers the outputs and the words written.
+pub fn prove(circuit: &[u32], input: &[u32], coins: &[u32], messages: &mut [u32]) -> Result<(Vec<u32>, usize), u32> {
     let circuit = Circuit::with_input(circuit, input)?;
     circuit.check_coins(coins)?;
     let words = circuit.message_words();
     require(messages.len() >= words, refusal::BUFFER)?;
     let mut values = [0; MOST_VALUES];
     fill(&circuit, input, &mut values);
-    let mut coins_before = 0;
+    let mut coins_before = circuit.first_coin(1);
     let mut rest = &mut messages[..words];
     while let Some(place) = circuit.place(coins_before) {
         let (message, later) = rest.split_at_mut(circuit.message_length(place));
@@ -23,7 +23,7 @@ pub fn prove(circuit: &[u32], input: &[u32], coins: &[u32], messages: &mut [u32]
         rest = later;
         coins_before += 1;
     }
-    Ok((values[0], words))
+    Ok((circuit.layer_values(&values, 0).to_vec(), words))
 }
 
 /// Writes the message that follows the coin prefix and answers its word count.

@@ -1,7 +1,7 @@
 //! The verifier: the whole check, and the session that is stepped through message by message.
 
 use crate::circuit::{Circuit, Place};
-use crate::extension::{ends, extension, point_on, weight};
+use crate::extension::{ends, extension, first_point, point_on, weight};
 use crate::field::Field;
 use crate::gate::{self, Gate, EMPTY, OPERATIONS};
 use crate::refusal::{self, require};
@@ -25,10 +25,10 @@ pub enum Progress {
 }
 
 /// Checks a whole transcript.
-pub fn check(circuit: &[u32], input: &[u32], output: u32, coins: &[u32], messages: &[u32]) -> Result<(), u32> {
-    let circuit = begin(circuit, input, output, coins)?;
+pub fn check(circuit: &[u32], input: &[u32], outputs: &[u32], coins: &[u32], messages: &[u32]) -> Result<(), u32> {
+    let circuit = begin(circuit, input, outputs, coins)?;
     require(messages.len() == circuit.message_words(), refusal::MESSAGE_LENGTH)?;
-    let mut claim = output;
+    let mut claim = first_claim(&circuit, outputs, coins);
     let mut rest = messages;
     for layer in 1..=circuit.depth() {
         for round in 0..=2 * circuit.exponent(layer) {
@@ -41,10 +41,11 @@ pub fn check(circuit: &[u32], input: &[u32], output: u32, coins: &[u32], message
     compare_input(&circuit, input, coins, claim)
 }
 
-/// Opens a session.
-pub fn open(circuit: &[u32], input: &[u32], output: u32, coins: &[u32]) -> Result<Session, u32> {
-    begin(circuit, input, output, coins)?;
-    Ok(Session { layer: 1, round: 0, claim: output, open: true })
+/// Opens a session: the coins of the first point, and the record.
+pub fn open(circuit: &[u32], input: &[u32], outputs: &[u32], coins: &[u32]) -> Result<(Vec<u32>, Session), u32> {
+    let circuit = begin(circuit, input, outputs, coins)?;
+    let claim = first_claim(&circuit, outputs, coins);
+    Ok((first_point(&circuit, coins).to_vec(), Session { layer: 1, round: 0, claim, open: true }))
 }
 
 /// Takes the next message of a session.
@@ -92,11 +93,16 @@ impl Session {
 }
 
 /// The refusals before the first message that the whole check and an opening share.
-fn begin<'a>(circuit: &'a [u32], input: &[u32], output: u32, coins: &[u32]) -> Result<Circuit<'a>, u32> {
+fn begin<'a>(circuit: &'a [u32], input: &[u32], outputs: &[u32], coins: &[u32]) -> Result<Circuit<'a>, u32> {
     let circuit = Circuit::with_input(circuit, input)?;
-    require(circuit.field.holds(output), refusal::OUTPUT)?;
+    circuit.check_outputs(outputs)?;
     circuit.check_coins(coins)?;
     Ok(circuit)
+}
+
+/// The claim that the walk starts from: one number for the whole output list.
+fn first_claim(circuit: &Circuit, outputs: &[u32], coins: &[u32]) -> u32 {
+    extension(circuit.field, outputs, first_point(circuit, coins))
 }
 
 /// One message of a session: the new claim, or none after the last comparison.
