@@ -6,15 +6,15 @@ use Rattle.primes.specs.Prime.{is_one_of}
 use Rattle.algebra.specs.Polynomial.{value_at, plus, minus, times}
 use Rattle.multilinear.specs.Extension.{bits, weight_of_bits, sum_from, extension}
 use Rattle.circuit.specs.Gate.{gate_value}
-use Rattle.circuit.specs.Circuit.{output_exponent, exponents, gates_of, layers_of, gate_count, gate_layers, gates_at, word_count, input_exponent, coin_count, message_words}
+use Rattle.circuit.specs.Circuit.{exponents, gates_of, layers_of, gate_count, gate_layers, gates_at, word_count, input_exponent, coin_count, message_words}
 use Rattle.circuit.specs.Legal.{all_below, wires_good, gate_cause, gates_cause, layers_cause, load_answer, input_cause, lists_cause}
-use Rattle.circuit.specs.Values.{layers_from, layers, values_at, value}
+use Rattle.circuit.specs.Values.{layers_from, layers, values_at}
 use Rattle.sumcheck.specs.Summand.{wiring, combined, summand, cube, partial_sum, line_point}
 use Rattle.sumcheck.specs.Message.{fit, sum_message, line_message}
 use Rattle.walk.specs.Game.{walk}
 use Rattle.walk.specs.Rule.{said}
 use Rattle.walk.specs.Session.{end_of, step}
-use Rattle.protocol.specs.Start.{first_claim}
+use Rattle.protocol.specs.Start.{claim_at}
 use Rattle.protocol.specs.Rounds.{rounds_of, rounds_from}
 use Rattle.protocol.specs.Judge.{line_claim, message_length, compared, judge, input_agrees, descent}
 use Rattle.protocol.specs.Check.{check_answer}
@@ -23,7 +23,7 @@ use Rattle.protocol.specs.Prove.{honest, transcript, prove_cause, prove_answer, 
 
 -- a circuit's parts, and its rounds
 unfoldable pub parts : Unit {0}
-unfolding output_exponent exponents gates_of layers_of gate_count gate_layers gates_at word_count input_exponent coin_count message_words rounds_of rounds_from sum
+unfolding exponents gates_of layers_of gate_count gate_layers gates_at word_count input_exponent coin_count message_words rounds_of rounds_from sum
 parts = tt
 
 -- the refusals 1 to 9
@@ -38,7 +38,7 @@ extending = tt
 
 -- Check
 unfoldable pub checking : Unit {0}
-unfolding legality extending value_at line_claim message_length compared judge input_agrees descent first_claim walk check_answer flatten
+unfolding legality extending value_at line_claim message_length compared judge input_agrees descent claim_at walk check_answer flatten
 checking = tt
 
 -- Open and Step
@@ -48,7 +48,7 @@ stepping = tt
 
 -- the values and the honest messages
 unfoldable pub honestly : Unit {0}
-unfolding parts extending gate_value layers_from layers values_at value plus minus times summand cube partial_sum fit sum_message line_message honest
+unfolding parts extending gate_value layers_from layers values_at plus minus times summand cube partial_sum fit sum_message line_message honest
 honestly = tt
 
 -- both forms of Prove

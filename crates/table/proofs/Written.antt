@@ -6,14 +6,22 @@ use mathlib.Core.List.{◌++◌, map}
 use Rattle.lists.specs.Each.{All}
 use Rattle.lists.specs.Count.{range}
 use Rattle.lists.proofs.Each.{all_always, all_append, all_map}
-use Rattle.table.specs.Rows.{Row, c1, c9_accepted, c10, differences, true_output, every_coin}
+use Rattle.table.specs.Rows.{Row, c1, c9_accepted, c10, c25, c30, differences, true_output, every_coin}
 use Rattle.table.specs.Written.{IsHonest, honest_rows, AllHonest, whole_proofs, AllProve, one_proofs, AllProveOne}
 use Rattle.table.proofs.Opened.{proving}
 
--- C1
+-- C1, C25 and C30
 c1_honest : IsHonest c1
 unfolding proving
 c1_honest = (refl, refl)
+
+c25_honest : IsHonest c25
+unfolding proving
+c25_honest = (refl, refl)
+
+c30_honest : IsHonest c30
+unfolding proving
+c30_honest = (refl, refl)
 
 -- C13, C16 and C19
 differences_honest : All IsHonest (map true_output differences)
@@ -36,15 +44,21 @@ pub rows_honest : AllHonest
 unfolding honest_rows
 rows_honest = (
   c1_honest,
-  all_append IsHonest (map true_output differences) (every_coin c9_accepted ++ every_coin c10) differences_honest
-      (all_append IsHonest (every_coin c9_accepted) (every_coin c10)
-      (every_coin_lem IsHonest c9_accepted c9_honest) (every_coin_lem IsHonest c10 c10_honest)),
+  (
+    c25_honest,
+    (
+      c30_honest,
+      all_append IsHonest (map true_output differences) (every_coin c9_accepted ++ every_coin c10) differences_honest
+          (all_append IsHonest (every_coin c9_accepted) (every_coin c10)
+          (every_coin_lem IsHonest c9_accepted c9_honest) (every_coin_lem IsHonest c10 c10_honest)),
+    ),
+  ),
 )
 
 pub all_prove : AllProve
 unfolding whole_proofs proving
-all_prove = ((refl, refl), ((refl, refl), ((refl, refl), ((refl, refl), ((refl, refl), tt)))))
+all_prove = ((refl, refl), ((refl, refl), ((refl, refl), ((refl, refl), ((refl, refl), ((refl, refl), tt))))))
 
 pub all_prove_one : AllProveOne
 unfolding one_proofs proving
-all_prove_one = ((refl, refl), ((refl, refl), ((refl, refl), ((refl, refl), ((refl, refl), ((refl, refl), ((refl, refl), tt)))))))
+all_prove_one = ((refl, refl), ((refl, refl), ((refl, refl), ((refl, refl), ((refl, refl), ((refl, refl), ((refl, refl), ((refl, refl), ((refl, refl), tt)))))))))

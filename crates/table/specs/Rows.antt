@@ -1,4 +1,4 @@
--- The worked cases C1 to C24, one table: what the whole check answers to each, and that a session ends the same way.
+-- The worked cases C1 to C35, one table: what the whole check answers to each, and that a session ends the same way.
 -- Assumes nothing.
 use Rattle.std.specs.Prelude.{ℕ, ◌≡◌}
 use mathlib.Core.List.{List, [], ◌∷◌, ◌++◌, map, flatten}
@@ -13,13 +13,17 @@ use Rattle.protocol.specs.Session.{open_cause, session_on}
 pub record Row : Type 0 where
   pub circuit : List ℕ
   pub input : List ℕ
-  pub output : ℕ
+  pub outputs : List ℕ
   pub coins : List ℕ
   pub messages : List (List ℕ)
   pub answer : ℕ
 
+abbrev pub several : List ℕ → List ℕ → List ℕ → List ℕ → List (List ℕ) → ℕ → Row
+several c input ys cs ms answer = record { circuit = c; input = input; outputs = ys; coins = cs; messages = ms; answer = answer }
+
+-- of one output
 abbrev pub row : List ℕ → List ℕ → ℕ → List ℕ → List (List ℕ) → ℕ → Row
-row c input y cs ms answer = record { circuit = c; input = input; output = y; coins = cs; messages = ms; answer = answer }
+row c input y cs ms answer = several c input (y ∷ []) cs ms answer
 
 -- lists of words
 abbrev pub one : ℕ → List ℕ
@@ -37,20 +41,20 @@ layer m₁ m₂ m₃ = m₁ ∷ m₂ ∷ m₃ ∷ []
 
 -- THE CIRCUITS: the product of two inputs, the square of one, an empty gate, and wires the wrong way round
 abbrev pub product : List ℕ
-product = 13 ∷ 1 ∷ 1 ∷ 2 ∷ 0 ∷ 1 ∷ []
+product = 13 ∷ 1 ∷ 0 ∷ 1 ∷ 2 ∷ 0 ∷ 1 ∷ []
 
 abbrev pub square : List ℕ
-square = 13 ∷ 1 ∷ 0 ∷ 2 ∷ 0 ∷ 0 ∷ []
+square = 13 ∷ 1 ∷ 0 ∷ 0 ∷ 2 ∷ 0 ∷ 0 ∷ []
 
 abbrev pub empty : List ℕ
-empty = 13 ∷ 1 ∷ 0 ∷ 0 ∷ 0 ∷ 0 ∷ []
+empty = 13 ∷ 1 ∷ 0 ∷ 0 ∷ 0 ∷ 0 ∷ 0 ∷ []
 
 abbrev pub swapped : List ℕ
-swapped = 13 ∷ 1 ∷ 1 ∷ 2 ∷ 1 ∷ 0 ∷ []
+swapped = 13 ∷ 1 ∷ 0 ∷ 1 ∷ 2 ∷ 1 ∷ 0 ∷ []
 
 -- one gate above two inputs, by its words
 abbrev pub one_gate : ℕ → ℕ → ℕ → List ℕ
-one_gate kind left right = 13 ∷ 1 ∷ 1 ∷ kind ∷ left ∷ right ∷ []
+one_gate kind left right = 13 ∷ 1 ∷ 0 ∷ 1 ∷ kind ∷ left ∷ right ∷ []
 
 -- THE CASES
 -- C1: "the lists and the transcript of 10.1", accepted
@@ -85,7 +89,7 @@ c7 = row product (two 3 5) 3 (three 4 6 9) (layer (three 10 6 3) (three 0 5 12) 
 abbrev pub c8 : Row
 c8 = row product (two 3 5) 3 (three 5 6 9) (layer (three 10 6 3) (three 0 5 12) (two 11 4)) 16
 
--- C9: "circuit 13 1 0 2 0 0, input 7, output 10, any coin: message 6; and message 7", 18 and accepted. 6 and 7 have the same square, 10, so
+-- C9: "circuit 13 1 0 0 2 0 0, input 7, output 10, any coin: message 6; and message 7", 18 and accepted. 6 and 7 have the same square, 10, so
 -- that the line gives the claim with either: only the last comparison tells them apart, where k_D is 0.
 abbrev pub c9_refused : ℕ → Row
 c9_refused t = row square (one 7) 10 (one t) (one 6 ∷ []) 18
@@ -93,7 +97,7 @@ c9_refused t = row square (one 7) 10 (one t) (one 6 ∷ []) 18
 abbrev pub c9_accepted : ℕ → Row
 c9_accepted t = row square (one 7) 10 (one t) (one 7 ∷ []) 0
 
--- C10: "circuit 13 1 0 0 0 0, input 7, output 0, any coin: message 7, the honest one", accepted
+-- C10: "circuit 13 1 0 0 0 0 0, input 7, output 0, any coin: message 7, the honest one", accepted
 abbrev pub c10 : ℕ → Row
 c10 t = row empty (one 7) 0 (one t) (one 7 ∷ []) 0
 
@@ -101,7 +105,7 @@ c10 t = row empty (one 7) 0 (one t) (one 7 ∷ []) 0
 abbrev pub as_c1 : List ℕ → ℕ → Row
 as_c1 c answer = row c (two 3 5) 2 (three 4 6 9) (layer (three 2 8 3) (three 0 5 12) (two 11 4)) answer
 
--- C11: "circuit 13 1 1 2 1 0, the rest as in C1", 7
+-- C11: "circuit 13 1 0 1 2 1 0, the rest as in C1", 7
 abbrev pub c11 : Row
 c11 = as_c1 swapped 7
 
@@ -147,8 +151,8 @@ differences = below ∷ equal ∷ above ∷ []
 abbrev pub argued : Difference → ℕ → List ℕ → ℕ → Row
 argued d y line answer = row d.words (two 3 5) y (three 4 6 9) (layer d.first d.second line) answer
 
--- C13: "circuit 13 1 1 3 0 1, input 3 5, coins 4 6 9, output 11, messages 11 4 11, 0 2 6 and 11 4", C16: "circuit 13 1 1 3 1 1, output 0, messages
--- 0 11 2, 0 6 5 and 11 4, the rest as in C13", C19: "circuit 13 1 1 3 1 0, output 2, messages 0 0 2, 6 12 8 and 11 4, the rest as in C13", accepted
+-- C13: "circuit 13 1 0 1 3 0 1, input 3 5, coins 4 6 9, output 11, messages 11 4 11, 0 2 6 and 11 4", C16: "circuit 13 1 0 1 3 1 1, output 0, messages
+-- 0 11 2, 0 6 5 and 11 4, the rest as in C13", C19: "circuit 13 1 0 1 3 1 0, output 2, messages 0 0 2, 6 12 8 and 11 4, the rest as in C13", accepted
 abbrev pub true_output : Difference → Row
 true_output d = argued d d.value (two 11 4) 0
 
@@ -164,17 +168,77 @@ abbrev pub right_at_1 : Difference → Row
 right_at_1 d = argued d d.value (two 12 3) 17
 
 -- WHAT IS NO GATE
--- C22: "circuit 13 1 1 1 1 0, the rest as in C1", 7: left above right of a gate that adds
+-- C22: "circuit 13 1 0 1 1 1 0, the rest as in C1", 7: left above right of a gate that adds
 abbrev pub c22 : Row
 c22 = as_c1 (one_gate 1 1 0) 7
 
--- C23: "circuit 13 1 1 0 1 0, the rest as in C1", 7: a wire of an empty gate
+-- C23: "circuit 13 1 0 1 0 1 0, the rest as in C1", 7: a wire of an empty gate
 abbrev pub c23 : Row
 c23 = as_c1 (one_gate 0 1 0) 7
 
--- C24: "circuit 13 1 1 4 0 1, the rest as in C1", 6
+-- C24: "circuit 13 1 0 1 4 0 1, the rest as in C1", 6
 abbrev pub c24 : Row
 c24 = as_c1 (one_gate 4 0 1) 6
+
+-- SEVERAL OUTPUTS of the inputs 3 and 5. The first point's coins come before the coins 4 6 9, and the line is V(4 + 2t) = 11 + 4t as above.
+
+-- Two outputs, the product 2 and the sum 8, with first coin 10. The gates weigh 1 - 10 = 4 and 10, and the claim is 4 × 2 + 10 × 8 = 88 = 10. The
+-- summand is (1 - u)v × (4V(u)V(v) + 10(V(u) + V(v))). First (1 - u)(30V(u) + 50) = (1 - u)(10 + 8u) = 10 - 2u - 8u², which is 10 + 0, and
+-- -126 = 4 at 4; then -3v(54V(v) + 110) = -3v(12 + 4v) = -36v - 12v², which is 0 + 4, and -648 = 2 at 6. The line gives V(u) = 11 and V(v) = 2, and
+-- -18 × (4 × 22 + 10 × 13) = 8 × 10 = 2.
+abbrev pub pair : List ℕ
+pair = 13 ∷ 1 ∷ 1 ∷ 1 ∷ 2 ∷ 0 ∷ 1 ∷ 1 ∷ 0 ∷ 1 ∷ []
+
+abbrev pub of_pair : List ℕ → ℕ → Row
+of_pair ys answer = several pair (two 3 5) ys (10 ∷ 4 ∷ 6 ∷ 9 ∷ []) (layer (three 10 11 5) (three 0 3 1) (two 11 4)) answer
+
+-- C25: "circuit 13 1 1 1 2 0 1 1 0 1, input 3 5, outputs 2 8, coins 10 4 6 9, messages 10 11 5, 0 3 1 and 11 4", accepted
+abbrev pub c25 : Row
+c25 = of_pair (two 2 8) 0
+
+-- C26: "C25 with outputs 2 9, one false word", 16: its claim is 4 × 2 + 10 × 9 = 98 = 7
+abbrev pub c26 : Row
+c26 = of_pair (two 2 9) 16
+
+-- C27: "C26 with first coin 0, and the messages of C1", accepted: 0 is where 2 9 and 2 8 have one extension, that of the first word
+abbrev pub c27 : Row
+c27 = several pair (two 3 5) (two 2 9) (0 ∷ 4 ∷ 6 ∷ 9 ∷ []) c1.messages 0
+
+-- C28: "C25 with output 15 alone", 21, though 15 is above p; C29: "C25 with outputs 2 21", 13
+abbrev pub c28 : Row
+c28 = of_pair (one 15) 21
+
+abbrev pub c29 : Row
+c29 = of_pair (two 2 21) 13
+
+-- Four outputs, the product 2, the sum 8, the difference 11 and the square of the second 12, with first coins 10 3. The gates weigh
+-- -9 × -2 = 5, -9 × 3 = -1, 10 × -2 = 6 and 10 × 3 = 4, and the claim is 10 - 8 + 66 + 48 = 12. With the lowest bit first the second and the third
+-- would change places. The summand is (1 - u)v × (5V(u)V(v) - (V(u) + V(v)) + 6(V(u) - V(v))) + uv × 4V(u)V(v). First
+-- (1 - u)(30V(u) - 35) + 20uV(u) = 3 + 6u², which is 3 + 9, and 99 = 8 at 4; then -3v(48V(v) + 55) + 176vV(v) = 9v + 12v², which is 0 + 8, and
+-- 486 = 5 at 6. The line gives 8 × (110 - 13 + 54) + 11 × 88 = 8 × 8 + 6 = 5.
+abbrev pub four : List ℕ
+four = 13 ∷ 1 ∷ 2 ∷ 1 ∷ 2 ∷ 0 ∷ 1 ∷ 1 ∷ 0 ∷ 1 ∷ 3 ∷ 0 ∷ 1 ∷ 2 ∷ 1 ∷ 1 ∷ []
+
+abbrev pub of_four : List ℕ → ℕ → Row
+of_four ys answer = several four (two 3 5) ys (10 ∷ 3 ∷ 4 ∷ 6 ∷ 9 ∷ []) (layer (three 3 0 6) (three 0 9 12) (two 11 4)) answer
+
+-- C30: "circuit 13 1 2 1 2 0 1 1 0 1 3 0 1 2 1 1, input 3 5, outputs 2 8 11 12, coins 10 3 4 6 9, messages 3 0 6, 0 9 12 and 11 4", accepted
+abbrev pub c30 : Row
+c30 = of_four (2 ∷ 8 ∷ 11 ∷ 12 ∷ []) 0
+
+-- C31: "C30 with outputs 2 11 8 12, the lowest bit first", 16
+abbrev pub c31 : Row
+c31 = of_four (2 ∷ 11 ∷ 8 ∷ 12 ∷ []) 16
+
+-- WHAT IS NO HEADER, "the rest as in C1"
+-- C32: "circuit 13 1 5 1 2 0 1", 4; C33: "circuit 13 1 0", 4, and it ends before k_1; C34: "circuit 13 1", 1; C35: "circuit 13 1 0 9 2 0 1", 4
+abbrev pub headers : List Row
+headers =
+    as_c1 (13 ∷ 1 ∷ 5 ∷ 1 ∷ 2 ∷ 0 ∷ 1 ∷ []) 4
+    ∷ as_c1 (13 ∷ 1 ∷ 0 ∷ []) 4
+    ∷ as_c1 (13 ∷ 1 ∷ []) 1
+    ∷ as_c1 (13 ∷ 1 ∷ 0 ∷ 9 ∷ 2 ∷ 0 ∷ 1 ∷ []) 4
+    ∷ []
 
 -- a row for every coin
 abbrev pub every_coin : (ℕ → Row) → List Row
@@ -189,16 +253,18 @@ table =
     ++ map true_output differences
     ++ map false_output differences ++ map right_at_0 differences ++ map right_at_1 differences
     ++ (c22 ∷ c23 ∷ c24 ∷ [])
+    ++ (c25 ∷ c26 ∷ c27 ∷ c28 ∷ c29 ∷ c30 ∷ c31 ∷ [])
+    ++ headers
 
 -- the whole check, on the messages one directly after another
 unfoldable pub whole_answer : Row → ℕ
-whole_answer r = check_answer r.circuit r.input r.output r.coins (flatten r.messages)
+whole_answer r = check_answer r.circuit r.input r.outputs r.coins (flatten r.messages)
 
 -- a session, opened and then a step for each message: the opening's refusal, or how the steps end
 unfoldable pub session_answer : Row → ℕ
 session_answer r =
-    first (open_cause r.circuit r.input r.output r.coins)
-    (end_of (session_on r.circuit r.input r.output r.coins r.messages))
+    first (open_cause r.circuit r.input r.outputs r.coins)
+    (end_of (session_on r.circuit r.input r.outputs r.coins r.messages))
 
 abbrev pub Holds : Row → Type 0
 Holds r = (whole_answer r ≡ r.answer) × (session_answer r ≡ r.answer)
