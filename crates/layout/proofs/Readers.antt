@@ -11,7 +11,6 @@ use Rattle.lists.proofs.Parts.{take_most}
 use Rattle.circuit.specs.Limits.{header_words}
 use Rattle.circuit.specs.Circuit.{depth, exponents, exponent_at, gates_of, gates_start, gate_words, gates_before}
 use Rattle.circuit.specs.Sized.{Sized}
-use Rattle.circuit.proofs.Sized.{one_output}
 use Rattle.circuit.proofs.Gates.{layer_words, layer_gates}
 use Rattle.layout.specs.Gates.{LayerWords}
 
@@ -43,16 +42,12 @@ module _ (c : List ℕ) where
       ap₂ (λ (a b : ℕ). take (b - a) (drop a gates)) es to ∙ part_cut gates (3 * from) (3 * count)
       ∙ ap (take (3 * count)) (ap (drop (3 * from)) eg ∙ drop-drop (3 * from) (gates_start c) c)
 
-  -- layer 0 is one gate
-  pub exponent_first : (layer : ℕ) → layer ≡ 0 → 0 ≡ exponent_at c layer
-  exponent_first layer e = sym (ap (exponent_at c) e ∙ one_output c)
-
   -- a layer's exponent is a word of the list, where there is such a layer
-  pub exponent_there : (layer : ℕ) → ¬ (layer ≡ 0) → layer ≤ depth c → get_or c (header_words + layer - 1) 0 ≡ exponent_at c layer
+  pub exponent_there : (layer : ℕ) → layer ≤ depth c → get_or c (header_words - 1 + layer) 0 ≡ exponent_at c layer
   unfolding exponents
-  exponent_there zero ne h = absurd (ne refl)
-  exponent_there (suc l) ne h =
-      let e : header_words + suc l - 1 ≡ header_words + l = omega arith in
+  exponent_there zero h = refl
+  exponent_there (suc l) h =
+      let e : header_words - 1 + suc l ≡ header_words + l = omega arith in
       ap (λ (i : ℕ). get_or c i 0) e ∙ sym (get_or-take (depth c) (drop header_words c) l 0 h ∙ get_or-drop header_words c l 0)
 
   pub exponent_past : (layer : ℕ) → depth c < layer → 0 ≡ exponent_at c layer

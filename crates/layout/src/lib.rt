@@ -1,4 +1,4 @@
-// The circuit list's layout: p, D, k_1 to k_D, then the gates of layers 0 to D-1 in order. Where each part stands is said here alone, but
+// The circuit list's layout: p, D, k_0, k_1 to k_D, then the gates of layers 0 to D-1 in order. Where each part stands is said here alone, but
 // that `sums` reads a gate's three words. Every function is total: of what the list has not it gives 0 or nothing.
 #![tactic(auto)]
 
@@ -16,14 +16,19 @@ pub const MAX_DEPTH: usize = 12;
 
 pub const MAX_EXPONENT: u32 = 8;
 
-// The words before the exponents.
-const HEADER: usize = 2;
+pub const MAX_OUTPUT_EXPONENT: u32 = 4;
+
+// The words before k_1: p, D and k_0.
+const HEADER: usize = 3;
 
 // The words of a gate.
 pub const GATE_WORDS: usize = 3;
 
-// The gates of the largest circuit: one in layer 0, and in each layer after it as many as there can be.
-pub const MAX_GATES: usize = 1 + (MAX_DEPTH - 1) * (1 << MAX_EXPONENT);
+// The outputs of the largest circuit.
+pub const MAX_OUTPUTS: usize = 1 << MAX_OUTPUT_EXPONENT;
+
+// Its gates: those of layer 0 are its outputs, and each layer after it has as many as there can be.
+pub const MAX_GATES: usize = MAX_OUTPUTS + (MAX_DEPTH - 1) * (1 << MAX_EXPONENT);
 
 // The words of its list.
 pub const MAX_WORDS: usize = HEADER + MAX_DEPTH + GATE_WORDS * MAX_GATES;
@@ -70,7 +75,7 @@ impl From<[u32; GATE_WORDS]> for Gate {
     }
 }
 
-// Whether p and D are there.
+// Whether p, D and k_0 are there.
 pub fn has_header(circuit: &[u32]) -> bool
     ensures { result ≡ leb header_words (length circuit.now) }
 {
@@ -107,15 +112,15 @@ pub fn exponents(circuit: &[u32]) -> &[u32]
     &circuit[start..end]
 }
 
-// The width exponent of a layer, 0 for one that the list has not: a word behind the header, and there is none behind the last.
-#[tactic(auto, using(crate::proofs::Readers::exponent_first, crate::proofs::Readers::exponent_there, crate::proofs::Readers::exponent_past))]
+// The width exponent of a layer, 0 for one that the list has not: k_0 is the header's last word, the others follow it.
+#[tactic(auto, using(crate::proofs::Readers::exponent_there, crate::proofs::Readers::exponent_past))]
 pub fn exponent(circuit: &[u32], layer: usize) -> u32
     ensures { result ≡ exponent_at circuit.now layer }
 {
-    if layer == 0 || depth(circuit) < layer {
+    if depth(circuit) < layer {
         return 0;
     }
-    lists::word(circuit, HEADER + layer - 1)
+    lists::word(circuit, HEADER - 1 + layer)
 }
 
 // The number of gates of a layer of width exponent k.
