@@ -13,14 +13,15 @@ use Rattle.lists.specs.Each.{All}
 use Rattle.primes.proofs.Prime.{listed_prime}
 use Rattle.refusal.proofs.Order.{first_none}
 use Rattle.algebra.specs.Numbers.{Numbers, words}
+use Rattle.circuit.specs.Limits.{max_outputs}
 use Rattle.circuit.specs.Gate.{Gate, gate_value}
 use Rattle.circuit.specs.Circuit.{prime_of, depth, exponents, exponent_at, output_exponent, gates_start, gates_of, layers_of, gate_layers, gates_at, input_exponent}
-use Rattle.circuit.specs.Legal.{all_below, gate_cause, gates_cause, layers_cause}
+use Rattle.circuit.specs.Legal.{all_below, gate_cause, gates_cause, layers_cause, lists_cause}
 use Rattle.circuit.specs.Sized.{LegalCircuit}
 use Rattle.circuit.specs.Values.{layers_from, layers, values_at, outputs}
 use Rattle.circuit.specs.Theorems.{LegalPrime, ValuesAreResidues, LayerSizes, LastLayer, LayerByLayer, WiresBelow, OutputLayer, OneOutput}
 use Rattle.circuit.proofs.Operate.{operate_below}
-use Rattle.circuit.proofs.Sized.{deep}
+use Rattle.circuit.proofs.Sized.{outputs_few, deep}
 use Rattle.circuit.proofs.Gates.{length_layers}
 use Rattle.circuit.proofs.Loading.{split_true, legal_circuit, legal_lists}
 use Rattle.circuit.proofs.Legal.{gate_wires, length_gates}
@@ -153,6 +154,10 @@ output_layer c input e = record {
   size = layer_sizes c input e 0 zero-le;
   residues = first_below (prime_of c) (layers c input) (values_are_residues c input e);
 }
+
+pub outputs_short : (c input : List ℕ) → lists_cause c input ≡ 0 → length (outputs c input) ≤ max_outputs
+outputs_short c input e =
+    le_trans (le_of_eq (output_layer c input e).size) (outputs_few (output_exponent c) (legal_lists c input e).circuit.sized.headed.few)
 
 -- a list of one word
 single : (l : List ℕ) → length l ≡ 1 → l ≡ get_or l 0 0 ∷ []

@@ -24,6 +24,22 @@ second_false : (a : Bool) {b : Bool} → b ≡ false → (a && b) ≡ false
 second_false true e = e
 second_false false e = refl
 
+pub split_true : (a b : Bool) → (a && b) ≡ true → (a ≡ true) × (b ≡ true)
+split_true true b e = (refl, e)
+split_true false b e = absurd (false≢true e)
+
+-- neither 3 nor 4
+pub headed : (c : List ℕ) → depth c ≤ max_depth → exponents_good c ≡ true → Exponents c
+headed c shallow e =
+    let outs = split_true (leb (output_exponent c) max_output_exponent) _ e in
+    let exps = split_true (eqb (length (exponents c)) (depth c)) (all_below (max_exponent + 1) (exponents c)) outs.1 in
+    record {
+      shallow = shallow;
+      few = leb-true (output_exponent c) max_output_exponent outs.0;
+      whole = eqb-true (length (exponents c)) (depth c) exps.0;
+      small = exps.1;
+    }
+
 -- none of 1 to 3
 pub record Ranged (c : List ℕ) : Type 0 where
   pub headed : leb header_words (length c) ≡ true
@@ -56,24 +72,9 @@ module _ (c : List ℕ) where
     depth_good_lem : depth_good c ≡ true
     depth_good_lem = both_true (le-leb 1 (depth c) r.low) (le-leb (depth c) max_depth r.high)
 
-    load_exponents : exponents_good c ≡ false → load_answer c ≡ 4
+    pub load_exponents : exponents_good c ≡ false → load_answer c ≡ 4
     unfolding load_answer
     load_exponents h = simp (r.headed, r.listed, depth_good_lem, h)
-
-    pub load_many : max_output_exponent < output_exponent c → load_answer c ≡ 4
-    load_many h =
-        load_exponents (ap (λ (x : Bool). x && (eqb (length (exponents c)) (depth c) && all_below (max_exponent + 1) (exponents c)))
-        (lt-leb (output_exponent c) max_output_exponent h))
-
-    load_written : (eqb (length (exponents c)) (depth c) && all_below (max_exponent + 1) (exponents c)) ≡ false → load_answer c ≡ 4
-    load_written h = load_exponents (second_false (leb (output_exponent c) max_output_exponent) h)
-
-    pub load_ends : ¬ (length (exponents c) ≡ depth c) → load_answer c ≡ 4
-    load_ends h =
-        load_written (ap (λ (x : Bool). x && all_below (max_exponent + 1) (exponents c)) (ne_eqb (length (exponents c)) (depth c) h))
-
-    pub load_wide : all_below (max_exponent + 1) (exponents c) ≡ false → load_answer c ≡ 4
-    load_wide h = load_written (second_false (eqb (length (exponents c)) (depth c)) h)
 
     module _ (x : Exponents c) where
       exponents_good_lem : exponents_good c ≡ true
@@ -90,10 +91,6 @@ module _ (c : List ℕ) where
       load_gates h = simp (r.headed, r.listed, depth_good_lem, exponents_good_lem, eq-eqb (length c) (word_count c) h)
 
 -- NO REFUSAL: what it says of the list
-pub split_true : (a b : Bool) → (a && b) ≡ true → (a ≡ true) × (b ≡ true)
-split_true true b e = (refl, e)
-split_true false b e = absurd (false≢true e)
-
 pub legal_circuit : (c : List ℕ) → load_answer c ≡ 0 → LegalCircuit c
 unfolding load_answer
 legal_circuit c e =
@@ -103,16 +100,9 @@ legal_circuit c e =
     let wide = need_none (exponents_good c) 3 _ deep.1 in
     let full = need_none (eqb (length c) (word_count c)) 4 _ wide.1 in
     let range = split_true (leb 1 (depth c)) (leb (depth c) max_depth) deep.0 in
-    let outs = split_true (leb (output_exponent c) max_output_exponent) _ wide.0 in
-    let exps = split_true (eqb (length (exponents c)) (depth c)) (all_below (max_exponent + 1) (exponents c)) outs.1 in
     record {
       sized = record {
-        headed = record {
-          shallow = leb-true (depth c) max_depth range.1;
-          few = leb-true (output_exponent c) max_output_exponent outs.0;
-          whole = eqb-true (length (exponents c)) (depth c) exps.0;
-          small = exps.1;
-        };
+        headed = headed c (leb-true (depth c) max_depth range.1) wide.0;
         counted = eqb-true (length c) (word_count c) full.0;
       };
       listed = listed.0;

@@ -65,12 +65,16 @@ count_bound k (k' ∷ ks) l e =
     let ih = count_bound k' ks (omega arith) (below_rest (max_exponent + 1) k' ks e) in
     omega arith
 
--- layer 0 is an output wide each, and the others are no wider than a layer can be
+-- the outputs of a list whose exponents are there
+pub outputs_few : (k : ℕ) → k ≤ max_output_exponent → 2 ^ k ≤ max_outputs
+outputs_few k h = pow-le-pow_right (lit< tt) h
+
+-- layer 0 has a gate for each output, and the others are no wider than a layer can be
 count_others : (k : ℕ) (ks : List ℕ) → k ≤ max_output_exponent → all_below (max_exponent + 1) ks ≡ true → length ks ≤ max_depth → gate_count k ks ≤ max_gates
 unfolding gate_count
 count_others k [] l e m = omega arith
 count_others k (k' ∷ ks) l e m =
-    let w : 2 ^ k ≤ max_outputs = pow-le-pow_right (lit< tt) l in
+    let w = outputs_few k l in
     let low : k' < max_exponent + 1 = below_each (max_exponent + 1) (k' ∷ ks) 0 e (omega arith) in
     let b = count_bound k' ks (omega arith) (below_rest (max_exponent + 1) k' ks e) in
     let others : length ks ≤ max_depth - 1 = omega arith in

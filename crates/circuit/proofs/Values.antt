@@ -1,6 +1,6 @@
 -- Where a layer's values stand among those of all layers.
 -- Assumes nothing.
-use Prim.Native.Nat.{ℕ, zero, suc, ◌+◌, ◌^◌, ◌≤◌, ◌<◌}
+use Prim.Native.Nat.{ℕ, zero, suc, ◌+◌, ◌^◌, ◌≤◌, ◌<◌, zero-le}
 use mathlib.Core.Path.{◌≡◌, sym, ap, ap₂, ◌∙◌}
 use mathlib.Core.List.{List, [], map, flatten}
 use native.Mathlib.Omega.{arith}
@@ -10,10 +10,10 @@ use lib.Seq.{take_all}
 use Rattle.lists.specs.Count.{sum}
 use Rattle.lists.proofs.Count.{sum_nil, sum_take}
 use Rattle.lists.proofs.Parts.{flatten_part, length_flatten}
-use Rattle.circuit.specs.Circuit.{depth, exponent_at, gates_before, value_count}
+use Rattle.circuit.specs.Circuit.{depth, output_exponent, exponent_at, gates_before, value_count}
 use Rattle.circuit.specs.Legal.{lists_cause}
 use Rattle.circuit.specs.Sized.{LegalCircuit}
-use Rattle.circuit.specs.Values.{layers, values_at}
+use Rattle.circuit.specs.Values.{layers, values_at, outputs}
 use Rattle.circuit.proofs.Sized.{last_exponent}
 use Rattle.circuit.proofs.Gates.{count_none, count_all, before_next}
 use Rattle.circuit.proofs.Loading.{legal_lists}
@@ -42,6 +42,10 @@ module _ (c input : List ℕ) (e : lists_cause c input ≡ 0) where
   layer_part l h =
       ap₂ (λ (n m : ℕ). take n (drop m (flatten (layers c input)))) (sym (layer_sizes c input e l h)) (sym (before_layer l h))
       ∙ flatten_part (layers c input) l (omega (arith, length_all_layers c input legal))
+
+  -- the outputs are the first of all values
+  pub output_part : take (2 ^ output_exponent c) (flatten (layers c input)) ≡ outputs c input
+  output_part = ap (λ (m : ℕ). take (2 ^ output_exponent c) (drop m (flatten (layers c input)))) (count_none c) ∙ layer_part 0 zero-le
 
   pub layer_room : (l : ℕ) → l ≤ depth c → gates_before c l + 2 ^ exponent_at c l ≤ length (flatten (layers c input))
   layer_room l h =

@@ -16,10 +16,10 @@ use Rattle.lists.proofs.Front.{front_over, front_take}
 use Rattle.algebra.specs.Numbers.{Numbers, words}
 use Rattle.circuit.specs.Limits.{max_values}
 use Rattle.circuit.specs.Gate.{gate_value}
-use Rattle.circuit.specs.Circuit.{output_exponent, prime_of, depth, exponent_at, gates_start, gates_before, gates_at, value_count}
+use Rattle.circuit.specs.Circuit.{prime_of, depth, exponent_at, gates_start, gates_before, gates_at, value_count}
 use Rattle.circuit.specs.Legal.{lists_cause}
 use Rattle.circuit.specs.Sized.{LegalCircuit}
-use Rattle.circuit.specs.Values.{layers, values_at, value}
+use Rattle.circuit.specs.Values.{layers, values_at}
 use Rattle.circuit.proofs.Legal.{length_gates}
 use Rattle.circuit.proofs.Gates.{before_next, count_none, layer_count}
 use Rattle.circuit.proofs.Loading.{legal_lists}
@@ -225,13 +225,3 @@ module _ (c input : List ℕ) (e : lists_cause c input ≡ 0) where
             ∙ sym (ap₂ (λ (n m : ℕ). take n (drop m values)) (ap (λ (m : ℕ). value_count c - m) top ∙ whole) top)
             ∙ F.holds ∙ ap (λ (m : ℕ). drop m all) top;
       }
-
-  -- the array's first word is the output
-  pub output_first : (values : List ℕ) → AllValues c input values → get_or values 0 0 ≡ value c input
-  unfolding value output_exponent
-  output_first values f =
-      let some : gates_before c 0 + 1 ≤ value_count c = layer_inside 0 (omega arith) in
-      let v = front_take f (value_count c) (sym (all_size c input e)) in
-      sym (get_or-take (value_count c) values 0 0 (omega arith)) ∙ ap (λ (t : List ℕ). get_or t 0 0) v
-      ∙ sym (get_or-take 1 all 0 0 (omega arith))
-      ∙ ap (λ (m : ℕ). get_or (take 1 (drop m all)) 0 0) (count_none c) ∙ ap (λ (t : List ℕ). get_or t 0 0) (layer_part c input e 0 (omega arith))

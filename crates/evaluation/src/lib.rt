@@ -10,11 +10,12 @@ ghost use Rattle.circuit.specs.Circuit.{depth, gates_before};
 ghost use Rattle.circuit.specs.Legal.{lists_cause};
 ghost use Rattle.layout.specs.Gate.{kind_number, gate_in};
 ghost use Rattle.evaluation.specs.Layer.{layer_values, AllValues, Fillable, Placed};
-ghost use Rattle.evaluation.specs.Evaluate.{Evaluates};
+ghost use Rattle.evaluation.specs.Evaluate.{WritesValues, Evaluates};
 
 use field::Field;
 use layout::{GATE_WORDS, Gate, Kind};
 use refusal::Cause;
+use short_list::ShortList;
 
 // The gate and input words of the largest circuit.
 pub const MAX_VALUES: usize = layout::MAX_GATES + (1 << layout::MAX_EXPONENT);
@@ -84,9 +85,9 @@ fn all_values(circuit: &[u32], input: &[u32], place: usize) -> [u32; MAX_VALUES]
     values
 }
 
-// Evaluate: the output, with the values of layers 0 to D at the front of the buffer, or the first refusal of 1 to 10.
-pub fn evaluate(circuit: &[u32], input: &[u32], buffer: &mut [u32]) -> Result<u32, Cause>
-    ensures { Evaluates circuit.now input.now buffer.old result buffer.new }
+// Writes the values of layers 0 to D to the front of the buffer and answers how many of them are outputs, or the first refusal of 1 to 10.
+fn write_values(circuit: &[u32], input: &[u32], buffer: &mut [u32]) -> Result<usize, Cause>
+    ensures { WritesValues circuit.now input.now buffer.old result buffer.new }
 {
     legality::check_lists(circuit, input)?;
     let place = layout::gates_before(circuit, layout::depth(circuit));
@@ -96,5 +97,28 @@ pub fn evaluate(circuit: &[u32], input: &[u32], buffer: &mut [u32]) -> Result<u3
     }
     let values = all_values(circuit, input, place);
     lists::put(buffer, &values[..total]);
-    Ok(values[0])
+    Ok(layout::layer_width(circuit, 0))
+}
+
+// What Evaluate answers: whether it refuses, and the outputs, none where it does.
+#[derive(Clone, Copy, PartialEq, Eq, Debug)]
+pub struct Evaluated {
+    pub outcome: Result<(), Cause>,
+    pub outputs: ShortList,
+}
+
+// Evaluate: the outputs, with the values of layers 0 to D at the front of the buffer, or the first refusal of 1 to 10.
+pub fn evaluate(circuit: &[u32], input: &[u32], buffer: &mut [u32]) -> Evaluated
+    ensures { Evaluates circuit.now input.now buffer.old result buffer.new }
+{
+    match write_values(circuit, input, buffer) {
+        Ok(count) => Evaluated {
+            outcome: Ok(()),
+            outputs: ShortList::new(&buffer[..count]),
+        },
+        Err(cause) => Evaluated {
+            outcome: Err(cause),
+            outputs: ShortList::new(&[]),
+        },
+    }
 }

@@ -1,6 +1,6 @@
 -- Legality in loops over gates and over layers: what is left from a gate on, and from a layer on, decides as all of them do.
 -- Assumes nothing.
-use Prim.Native.Nat.{ℕ, ◌+◌, ◌/◌, ◌^◌, ◌≤◌, ◌<◌}
+use Prim.Native.Nat.{ℕ, ◌+◌, ◌/◌, ◌^◌, ◌≤◌, ◌<◌, zero-le}
 use mathlib.Core.Path.{◌≡◌, refl, sym, ap, ap₂, ◌∙◌}
 use mathlib.Core.List.{List, [], map}
 use native.Mathlib.Numerals.{add-one}
@@ -13,11 +13,11 @@ use Rattle.refusal.specs.Order.{first}
 use Rattle.refusal.specs.declared.Cause.{Cause}
 use Rattle.refusal.proofs.Order.{refused_first, legal_first}
 use Rattle.circuit.specs.Gate.{Gate}
-use Rattle.circuit.specs.Circuit.{depth, exponents, exponent_at, output_exponent, width_of, gates_start, gates_before, gates_at, gate_layers}
+use Rattle.circuit.specs.Circuit.{depth, exponents, exponent_at, width_of, gates_start, gates_before, gates_at, gate_layers}
 use Rattle.circuit.specs.Legal.{gate_cause, gates_cause, layers_cause}
 use Rattle.circuit.specs.Sized.{Sized}
 use Rattle.circuit.proofs.Legal.{length_gates}
-use Rattle.circuit.proofs.Sized.{one_output, width_of_lem}
+use Rattle.circuit.proofs.Sized.{exponent_width}
 use Rattle.circuit.proofs.Gates.{count_none, before_next, layers_at, layers_end}
 use Rattle.layout.specs.Gate.{gate_in}
 use Rattle.layout.proofs.Triples.{gates_on, all_of, layer_fits, layer_cut}
@@ -45,7 +45,7 @@ module _ (c : List ℕ) (h : Sized c) where
   pub checks_start : (count : ℕ) (rows : List (List ℕ)) → count ≡ width_of (exponent_at c 0) → map gate_in rows ≡ all_of c → BeforeLayer c 0 count rows
   checks_start count rows e er = record {
     inside = omega arith;
-    wide = e ∙ width_of_lem (output_exponent c) (omega (arith, one_output c));
+    wide = e ∙ exponent_width c 0 (record { headed = h.headed; inside = zero-le });
     rest = er ∙ ap (λ (n : ℕ). drop n (all_of c)) (count_none c);
     left = refl;
   }

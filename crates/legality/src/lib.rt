@@ -4,11 +4,11 @@
 ghost use Rattle.std.specs.Prelude.{◌≡◌, map};
 ghost use Rattle.refusal.specs.Number.{cause_of};
 ghost use Rattle.circuit.specs.Circuit.{exponents, gate_layers, input_count};
-ghost use Rattle.circuit.specs.Legal.{all_below, wires_good, gate_cause, gates_cause, layers_cause, load_answer, lists_cause};
+ghost use Rattle.circuit.specs.Legal.{all_below, exponents_good, wires_good, gate_cause, gates_cause, layers_cause, load_answer, lists_cause};
 ghost use Rattle.circuit.specs.Sized.{LegalCircuit, Sized};
 ghost use Rattle.layout.specs.Gate.{gate_of, gate_in};
 
-use layout::{GATE_WORDS, Gate, Kind, MAX_DEPTH, MAX_EXPONENT};
+use layout::{GATE_WORDS, Gate, Kind, MAX_DEPTH, MAX_EXPONENT, MAX_OUTPUT_EXPONENT};
 use refusal::Cause;
 
 // Whether each word is below p.
@@ -75,6 +75,16 @@ fn check_layers(circuit: &[u32]) -> Result<(), Cause>
     Ok(())
 }
 
+// Whether the exponents are all there, and small enough.
+fn exponents_good(circuit: &[u32]) -> bool
+    ensures { result ≡ exponents_good circuit.now }
+{
+    let exponents = layout::exponents(circuit);
+    layout::exponent(circuit, 0) <= MAX_OUTPUT_EXPONENT
+        && exponents.len() == layout::depth(circuit)
+        && all_below(exponents, MAX_EXPONENT + 1)
+}
+
 // Load: whether the list is a legal circuit, else the first refusal of 1 to 7.
 pub fn load(circuit: &[u32]) -> Result<(), Cause>
     ensures { cause_of result ≡ load_answer circuit.now }
@@ -89,8 +99,7 @@ pub fn load(circuit: &[u32]) -> Result<(), Cause>
     if depth < 1 || MAX_DEPTH < depth {
         return Err(Cause::DepthRange);
     }
-    let exponents = layout::exponents(circuit);
-    if exponents.len() != depth || !all_below(exponents, MAX_EXPONENT + 1) {
+    if !exponents_good(circuit) {
         return Err(Cause::ExponentRange);
     }
     if circuit.len() != layout::word_count(circuit) {

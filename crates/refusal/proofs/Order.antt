@@ -9,7 +9,7 @@ use Rattle.refusal.specs.Number.{number_of}
 use Rattle.refusal.specs.Order.{need, first}
 use Rattle.refusal.specs.declared.Cause.{Cause}
 use Rattle.refusal.specs.declared.Cause.TheVariants.{HeaderShort, PrimeUnlisted, DepthRange, ExponentRange, WordCount, GateKind, GateWires, InputCount, InputWord, BufferShort}
-use Rattle.refusal.specs.declared.Cause.TheVariants.{CoinCount, CoinWord, OutputWord, MessageLength, MessageWord, RoundDiffers, LineDiffers, InputDiffers, RecordUnfit, BytesUnfit}
+use Rattle.refusal.specs.declared.Cause.TheVariants.{CoinCount, CoinWord, OutputWord, MessageLength, MessageWord, RoundDiffers, LineDiffers, InputDiffers, RecordUnfit, BytesUnfit, OutputCount}
 
 -- each number is above 0
 numbered : (cause : Cause) (rest : ℕ) → first (number_of cause) rest ≡ number_of cause
@@ -33,6 +33,7 @@ numbered LineDiffers rest = refl
 numbered InputDiffers rest = refl
 numbered RecordUnfit rest = refl
 numbered BytesUnfit rest = refl
+numbered OutputCount rest = refl
 
 -- a cause's number as a successor, for what goes by cases on it
 numbered_suc : (cause : Cause) → (n : ℕ) × (number_of cause ≡ suc n)

@@ -3,7 +3,7 @@
 use Rattle.std.specs.Prelude.{ℕ, Result, Ok, Err}
 use Rattle.refusal.specs.declared.Cause.{Cause}
 use Rattle.refusal.specs.declared.Cause.TheVariants.{HeaderShort, PrimeUnlisted, DepthRange, ExponentRange, WordCount, GateKind, GateWires, InputCount, InputWord, BufferShort}
-use Rattle.refusal.specs.declared.Cause.TheVariants.{CoinCount, CoinWord, OutputWord, MessageLength, MessageWord, RoundDiffers, LineDiffers, InputDiffers, RecordUnfit, BytesUnfit}
+use Rattle.refusal.specs.declared.Cause.TheVariants.{CoinCount, CoinWord, OutputWord, MessageLength, MessageWord, RoundDiffers, LineDiffers, InputDiffers, RecordUnfit, BytesUnfit, OutputCount}
 
 abbrev pub number_of : Cause → ℕ
 number_of HeaderShort = 1
@@ -26,6 +26,7 @@ number_of LineDiffers = 17
 number_of InputDiffers = 18
 number_of RecordUnfit = 19
 number_of BytesUnfit = 20
+number_of OutputCount = 21
 
 -- the number of an answer that a refusal may stand in place of; 0 where none does
 abbrev pub cause_of : {A : Type 0} → Result A Cause → ℕ

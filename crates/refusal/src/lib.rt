@@ -6,7 +6,7 @@ ghost use Rattle.refusal.specs.Number.{number_of};
 
 #[derive(Clone, Copy, PartialEq, Eq, Debug)]
 pub enum Cause {
-    // Fewer than two words.
+    // Fewer than three words.
     HeaderShort = 1,
     // The modulus is not one of the listed primes.
     PrimeUnlisted = 2,
@@ -30,7 +30,7 @@ pub enum Cause {
     CoinCount = 11,
     // A coin is not below p.
     CoinWord = 12,
-    // The output is not below p.
+    // An output is not below p.
     OutputWord = 13,
     // A message, or all of them, has the wrong length.
     MessageLength = 14,
@@ -46,6 +46,8 @@ pub enum Cause {
     RecordUnfit = 19,
     // The bytes are not the arrays that were called for.
     BytesUnfit = 20,
+    // The outputs are not as many as the circuit has.
+    OutputCount = 21,
 }
 
 impl From<Cause> for u32 {

@@ -1,5 +1,5 @@
 -- `load` meets its contract: each return is one case of `load_answer`, tried in its order.
-use Prim.Native.Nat.{ℕ, ◌+◌, ◌≤◌}
+use Prim.Native.Nat.{ℕ, ◌≤◌}
 use mathlib.Core.Path.{◌≡◌, sym, ap, ◌∙◌}
 use mathlib.Core.Bool.{true}
 use mathlib.Core.List.{List}
@@ -7,26 +7,15 @@ use lib.Dec.{leb}
 use native.Mathlib.Omega.{arith}
 use lib.ListN.{length}
 use Rattle.primes.specs.Prime.{is_listed}
-use Rattle.circuit.specs.Limits.{header_words, max_depth, max_exponent}
-use Rattle.circuit.specs.Circuit.{prime_of, depth, exponents}
-use Rattle.circuit.specs.Legal.{all_below}
-use Rattle.circuit.specs.Sized.{Exponents}
-use Rattle.circuit.proofs.Loading.{Ranged, load_short, load_prime, load_flat, load_deep, load_ends, load_wide, load_count, load_gates}
+use Rattle.circuit.specs.Limits.{header_words, max_depth}
+use Rattle.circuit.specs.Circuit.{prime_of, depth}
+use Rattle.circuit.proofs.Loading.{Ranged, load_short, load_prime, headed, load_flat, load_deep, load_exponents, load_count, load_gates}
 use Rattle.legality.proofs.load.Goals as goal
 use Rattle.legality.proofs.load.Goals.{then-depth-lt1-via-then-depth-lt1, then-depth-lt1-via-else-depth-lt1+then-depth-gt-MAX_DEPTH}
-use Rattle.legality.proofs.load.Goals.{then-exponents-depth-via-then-exponents-depth, then-exponents-depth-via-else-exponents-depth+then-not-all_below}
 
 -- behind 3: the list has its header, its prime is listed, and its depth is in range
 ranged : (l : List ℕ) (d : ℕ) → leb header_words (length l) ≡ true → is_listed (prime_of l) ≡ true → d ≡ depth l → 1 ≤ d → d ≤ max_depth → Ranged l
 ranged l d two listed deep low high = record { headed = two; listed = listed; low = omega arith; high = omega arith }
-
--- behind 4: its exponents are there, and small
-headed : (l es : List ℕ) (d : ℕ) → Ranged l → d ≡ depth l → es ≡ exponents l → length es ≡ d → all_below (max_exponent + 1) es ≡ true → Exponents l
-headed l es d r deep there whole small = record {
-  shallow = r.high;
-  whole = sym (ap length there) ∙ whole ∙ deep;
-  small = sym (ap (all_below (max_exponent + 1)) there) ∙ small;
-}
 
 pub returns-then-not-has_header : goal.returns-then-not-has_header
 returns-then-not-has_header c = sym (load_short c.args.circuit.now (sym c.has_header.ensures ∙ c.if-not-has_header.true))
@@ -45,18 +34,12 @@ returns-then-depth-lt1 c =
           sym (load_deep c.args.circuit.now two listed (omega (arith, w.if-depth-gt-MAX_DEPTH.true, c.depth-depth.ensures.0)))
     ]
 
-pub returns-then-exponents-depth : goal.returns-then-exponents-depth
-returns-then-exponents-depth c =
-    let l = c.args.circuit.now in
+pub returns-then-not-exponents_good : goal.returns-then-not-exponents_good
+returns-then-not-exponents_good c =
     let two = sym c.has_header.ensures ∙ c.if-not-has_header.false in
     let listed = sym (ap is_listed c.prime.ensures) ∙ sym c.is_listed.ensures ∙ c.if-not-is_listed.false in
-    let r = ranged l _ two listed c.depth-depth.ensures.0 c.if-depth-lt1.false c.if-depth-gt-MAX_DEPTH.false in
-    elim c.then-exponents-depth.branch [
-      | then-exponents-depth-via-then-exponents-depth w ↦
-          sym (load_ends l r (λ e. w.if-exponents-depth.true (ap length c.exponents-exponents.ensures ∙ e ∙ sym c.depth-depth.ensures.0)))
-      | then-exponents-depth-via-else-exponents-depth+then-not-all_below w ↦
-          sym (load_wide l r (sym (ap (all_below (max_exponent + 1)) c.exponents-exponents.ensures) ∙ sym w.all_below.ensures ∙ w.if-not-all_below.true))
-    ]
+    let r = ranged c.args.circuit.now _ two listed c.depth-depth.ensures.0 c.if-depth-lt1.false c.if-depth-gt-MAX_DEPTH.false in
+    sym (load_exponents c.args.circuit.now r (sym c.exponents_good.ensures ∙ c.if-not-exponents_good.true))
 
 pub returns-then-circuit-word_count : goal.returns-then-circuit-word_count
 returns-then-circuit-word_count c =
@@ -64,7 +47,7 @@ returns-then-circuit-word_count c =
     let two = sym c.has_header.ensures ∙ c.if-not-has_header.false in
     let listed = sym (ap is_listed c.prime.ensures) ∙ sym c.is_listed.ensures ∙ c.if-not-is_listed.false in
     let r = ranged l _ two listed c.depth-depth.ensures.0 c.if-depth-lt1.false c.if-depth-gt-MAX_DEPTH.false in
-    let x = headed l _ _ r c.depth-depth.ensures.0 c.exponents-exponents.ensures c.if-exponents-depth.false (sym c.all_below.ensures ∙ c.if-not-all_below.false) in
+    let x = headed l r.high (sym c.exponents_good.ensures ∙ c.if-not-exponents_good.false) in
     sym (load_count l r x (λ e. c.if-circuit-word_count.true (e ∙ sym (c.word_count.ensures x))))
 
 pub returns : goal.returns
@@ -73,5 +56,5 @@ returns c =
     let two = sym c.has_header.ensures ∙ c.if-not-has_header.false in
     let listed = sym (ap is_listed c.prime.ensures) ∙ sym c.is_listed.ensures ∙ c.if-not-is_listed.false in
     let r = ranged l _ two listed c.depth-depth.ensures.0 c.if-depth-lt1.false c.if-depth-gt-MAX_DEPTH.false in
-    let x = headed l _ _ r c.depth-depth.ensures.0 c.exponents-exponents.ensures c.if-exponents-depth.false (sym c.all_below.ensures ∙ c.if-not-all_below.false) in
+    let x = headed l r.high (sym c.exponents_good.ensures ∙ c.if-not-exponents_good.false) in
     c.check_layers.ensures ∙ sym (load_gates l r x (c.if-circuit-word_count.false ∙ c.word_count.ensures x))
