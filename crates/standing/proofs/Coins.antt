@@ -1,11 +1,11 @@
 -- Sums over the layers before one.
 -- Assumes nothing.
-use Prim.Native.Nat.{ℕ, zero, suc, ◌+◌, ◌-◌, ◌*◌, ◌≤◌}
+use Prim.Native.Nat.{ℕ, zero, suc, ◌+◌, ◌-◌, ◌*◌, ◌^◌, ◌≤◌, ◌<◌}
 use mathlib.Core.Path.{◌≡◌, sym, ap, ◌∙◌}
 use mathlib.Core.List.{List, [], ◌∷◌, map}
-use native.Mathlib.Nat.{zero-add}
+use native.Mathlib.Nat.{zero-add, mul-le-mul_right}
 use native.Mathlib.Omega.{arith}
-use lib.ListN.{take}
+use lib.ListN.{length, take, get_or}
 use lib.Seq.{take_all}
 use Rattle.std.specs.Prelude.{fold, sum_by}
 use Rattle.lists.specs.Count.{sum}
@@ -23,6 +23,16 @@ summed_on f n (k ∷ ks) = summed_on f (n + f k) ks ∙ omega (arith, sum_cons (
 
 pub layer_sum_by : (a : ℕ) (ks : List ℕ) → sum_by (λ k. a * k + 1) ks ≡ layer_sum a ks
 layer_sum_by a ks = summed_on (λ k. a * k + 1) 0 ks ∙ zero-add (layer_sum a ks)
+
+-- a few terms, of a word each
+pub layer_sum_few : (a n : ℕ) (ks : List ℕ) → a ≤ 7 → length ks ≤ n → ((i : ℕ) → get_or ks i 0 < 2 ^ 32) → layer_sum a ks ≤ n * (7 * 2 ^ 32)
+layer_sum_few a n [] low few words = omega (arith, sum_nil)
+layer_sum_few a zero (k ∷ ks) low few words = absurd (omega arith)
+layer_sum_few a (suc n) (k ∷ ks) low few words =
+    let own : k < 2 ^ 32 = words 0 in
+    let times : a * k ≤ 7 * k = mul-le-mul_right k low in
+    let rest = layer_sum_few a n ks low (omega arith) (λ i. words (suc i)) in
+    omega (arith, sum_cons (a * k + 1) (map (λ k. a * k + 1) ks), rest)
 
 module _ (c : List ℕ) where
   -- the layers before the one behind the last are all

@@ -1,4 +1,5 @@
 pub mod Points
+pub mod Outputs
 pub mod Coins
 pub mod Lengths
 pub mod Rounds

@@ -1,6 +1,6 @@
 -- The points that the check reads off the coins.
 -- Assumes nothing.
-use Prim.Native.Nat.{ℕ, zero, suc, ◌+◌, ◌-◌, ◌*◌, ◌≤◌, ◌<◌, min}
+use Prim.Native.Nat.{ℕ, zero, suc, ◌+◌, ◌-◌, ◌*◌, ◌≤◌, ◌<◌, zero-le, min}
 use mathlib.Core.Path.{◌≡◌, refl, sym, ap, ap₂, ◌∙◌, subst}
 use mathlib.Core.List.{List}
 use native.Mathlib.Decide.{dec_lt}
@@ -12,7 +12,7 @@ use Rattle.lists.proofs.Front.{front_whole, front_take}
 use Rattle.algebra.specs.Numbers.{words}
 use Rattle.extension.specs.Limits.{row_length}
 use Rattle.circuit.specs.Circuit.{prime_of, depth, output_exponent, exponent_at}
-use Rattle.circuit.proofs.Sized.{one_output, deep, exponent_small}
+use Rattle.circuit.proofs.Sized.{deep, exponent_small, layer_of}
 use Rattle.sumcheck.specs.Summand.{line_point}
 use Rattle.sumcheck.proofs.Words.{line_point_length}
 use Rattle.summand.proofs.Line.{take_line}
@@ -127,8 +127,8 @@ module _ (c : List ℕ) (past : List ℕ) where
       let e : 1 ≡ layer = omega arith in
       let counted : length past ≡ layer_start c layer = h.counted in
       let few : length past ≡ output_exponent c = counted ∙ ap (layer_start c) (sym e) ∙ omega (arith, sum_nil) in
-      let none = one_output c in
-      take_all row_length past (omega (arith, few, none)) ∙ sym (take_all (output_exponent c) past (omega arith))
+      let small = exponent_small c 0 (layer_of c h.there.legal 0 zero-le) in
+      take_all row_length past (omega (arith, few, small)) ∙ sym (take_all (output_exponent c) past (omega arith))
       ∙ ap (λ (i : ℕ). point_at c i past) e
 
 -- the lesser of a list's length and k takes as many words as k

@@ -11,7 +11,7 @@ use Rattle.circuit.specs.Sized.{LegalCircuit}
 use Rattle.protocol.specs.Rounds as walk
 use Rattle.protocol.specs.Rounds.{place, layer_start, AtRound}
 use Rattle.protocol.specs.Judge.{fixed, point_at}
-use Rattle.protocol.specs.Check.{need_coins}
+use Rattle.protocol.specs.Check.{need_outputs, need_coins}
 use Rattle.standing.specs.declared.Place.{Place}
 use Rattle.standing.specs.declared.Stand.{Stand}
 
@@ -52,7 +52,11 @@ CoinsOf c n = LegalCircuit c → n ≡ coin_count c
 abbrev pub WordsOf : List ℕ → ℕ → Type 0
 WordsOf c n = LegalCircuit c → n ≡ message_words c
 
--- the refusals 11 and 12, of a legal circuit
+-- the refusals 21 and 13, of a legal circuit
+abbrev pub ChecksOutputs : List ℕ → List ℕ → Result ⊤ Cause → Type 0
+ChecksOutputs c outputs r = LegalCircuit c → cause_of r ≡ need_outputs c outputs 0
+
+-- and 11 and 12
 abbrev pub ChecksCoins : List ℕ → List ℕ → Result ⊤ Cause → Type 0
 ChecksCoins c coins r = LegalCircuit c → cause_of r ≡ need_coins c coins 0
 

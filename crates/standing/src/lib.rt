@@ -2,13 +2,14 @@
 // function is total; some promise nothing where the list is no legal circuit or the coins are not those before the place.
 #![tactic(auto)]
 
-ghost use Rattle.std.specs.Prelude.{◌≡◌, ◌*◌, ◌≤◌, ◌-◌, length, take};
+ghost use Rattle.std.specs.Prelude.{◌≡◌, ◌*◌, ◌^◌, ◌≤◌, ◌-◌, length, take};
 ghost use Rattle.extension.specs.Limits.{row_length};
 ghost use Rattle.circuit.specs.Limits.{max_depth};
 ghost use Rattle.circuit.specs.Circuit.{exponents, exponent_at};
+ghost use Rattle.protocol.specs.Start.{first_point};
 ghost use Rattle.protocol.specs.Rounds.{is_line};
 ghost use Rattle.protocol.specs.Judge.{message_length};
-ghost use Rattle.standing.specs.Standing.{as_place, Row, PointStands, LayerSoFar, layer_sum, CoinsBefore, CoinsOf, WordsOf, ChecksCoins, StandsAt};
+ghost use Rattle.standing.specs.Standing.{as_place, Row, PointStands, LayerSoFar, layer_sum, CoinsBefore, CoinsOf, WordsOf, ChecksOutputs, ChecksCoins, StandsAt};
 
 use extension::MAX_COORDINATES;
 use layout::MAX_DEPTH;
@@ -67,13 +68,14 @@ fn exponents_before(circuit: &[u32], layer: usize) -> &[u32]
 // The sum of a × k + 1 over exponents k.
 fn layer_sum(exponents: &[u32], a: usize) -> usize
     requires { (a ≤ 7) × (length exponents.now ≤ max_depth) }
-    ensures { result ≡ layer_sum a exponents.now }
+    ensures sum { result ≡ layer_sum a exponents.now }
+    ensures small { result ≤ max_depth * (7 * 2 ^ 32) }
 {
     exponents.iter().map(|&k| a * k as usize + 1).sum()
 }
 
 // The coins before a layer.
-#[tactic(auto, using(circuit::proofs::Sized::one_output, crate::proofs::Coins::sum_start))]
+#[tactic(auto, using(crate::proofs::Coins::sum_start))]
 pub fn coins_before(circuit: &[u32], layer: usize) -> usize
     ensures { CoinsBefore circuit.now layer result }
 {
@@ -94,6 +96,29 @@ pub fn message_words(circuit: &[u32]) -> usize
     ensures { WordsOf circuit.now result }
 {
     layer_sum(exponents_before(circuit, layout::depth(circuit) + 1), 7)
+}
+
+// The coins before any message, which form the first point; of fewer coins all.
+#[tactic(auto, using(crate::proofs::Points::least_front))]
+pub fn first_point<'a>(circuit: &[u32], coins: &'a [u32]) -> &'a [u32]
+    ensures { result.now ≡ first_point circuit.now coins.now }
+{
+    let count = coins.len().min(layout::exponent(circuit, 0) as usize);
+    &coins[..count]
+}
+
+// The refusals 21 and 13.
+#[tactic(auto, using(crate::proofs::Outputs::as_wide))]
+pub fn check_outputs(circuit: &[u32], outputs: &[u32]) -> Result<(), Cause>
+    ensures { ChecksOutputs circuit.now outputs.now result }
+{
+    if outputs.len() != layout::layer_width(circuit, 0) {
+        return Err(Cause::OutputCount);
+    }
+    if !legality::all_below(outputs, layout::prime(circuit)) {
+        return Err(Cause::OutputWord);
+    }
+    Ok(())
 }
 
 // The refusals 11 and 12.
