@@ -1,25 +1,46 @@
 -- The answers of opening and step, by the case of the code's enums.
 -- Assumes nothing.
-use Rattle.std.specs.Prelude.{ℕ, ◌≡◌, Bool, true, false, List, Result, Ok, Err}
-use Rattle.refusal.specs.Number.{number_of}
+use Rattle.std.specs.Prelude.{ℕ, ◌≡◌, Bool, true, false, List, [], Result, Ok, Err, IfOk}
+use Rattle.refusal.specs.Number.{number_of, cause_of}
 use Rattle.refusal.specs.declared.Cause.{Cause}
 use Rattle.walk.specs.Session.{Answer, accepted, going_on, refused, Record, at, step_final, step}
+use Rattle.protocol.specs.Start.{first_claim}
 use Rattle.protocol.specs.Rounds.{Place, place, place_after, is_last}
 use Rattle.protocol.specs.Judge.{input_agrees, descent}
-use Rattle.protocol.specs.Session.{OpenAnswer, opens, refuses, step_answer}
+use Rattle.protocol.specs.Session.{OpenAnswer, opens, refuses, open_cause, open_answer, step_answer}
 use Rattle.session.specs.declared.Verdict.{Verdict}
 use Rattle.session.specs.declared.Verdict.TheVariants as verdict
+use Rattle.short_list.specs.Short.{short, list_of}
 use Rattle.session.specs.declared.Session.{Session}
+use Rattle.session.specs.declared.Opening.{Opening}
 use Rattle.session.specs.declared.Stepped.{Stepped}
 
 -- a session's record, as the definitions have it
 abbrev pub record_of : Session → Record Place
 record_of s = record { round = place s.layer s.round; claim = s.claim; opened = s.open }
 
--- OPEN: the record, or a refusal's number
-abbrev pub opening_of : Result Session Cause → OpenAnswer
-opening_of (Ok s) = opens (record_of s)
-opening_of (Err cause) = refuses (number_of cause)
+-- WHERE a session and the whole check start: the first claim, or the first refusal
+pub record Starts (c input ys cs : List ℕ) (r : Result ℕ Cause) : Type 0 where
+  pub cause : cause_of r ≡ open_cause c input ys cs
+  pub claim : IfOk r (λ claim. claim ≡ first_claim c ys cs)
+
+-- OPEN: the coins and the record, or a refusal's number
+abbrev pub opening_from : Result Session Cause → List ℕ → OpenAnswer
+opening_from (Ok s) us = opens us (record_of s)
+opening_from (Err cause) us = refuses (number_of cause)
+
+abbrev pub opening_of : Opening → OpenAnswer
+opening_of r = opening_from r.session (list_of r.coins)
+
+-- the coins of an answer, none of a refusal
+abbrev pub coins_in : OpenAnswer → List ℕ
+coins_in (opens us s) = us
+coins_in (refuses cause) = []
+
+-- the words past the coins are 0
+pub record Opens (c input ys cs : List ℕ) (r : Opening) : Type 0 where
+  pub answer : opening_of r ≡ open_answer c input ys cs
+  pub row : r.coins ≡ short (coins_in (open_answer c input ys cs))
 
 -- STEP: the answer, and the record after it
 abbrev pub verdict_of : Verdict → Answer

@@ -4,11 +4,12 @@
 ghost use Rattle.std.specs.Prelude.{◌≡◌, true};
 ghost use Rattle.refusal.specs.Number.{number_of};
 ghost use Rattle.walk.specs.Session.{going_on, refused, ended};
-ghost use Rattle.protocol.specs.Session.{open_answer, record_fits};
+ghost use Rattle.protocol.specs.Session.{record_fits};
 ghost use Rattle.standing.specs.Standing.{as_place};
-ghost use Rattle.session.specs.Answers.{record_of, opening_of, verdict_of, GoesOn, StepsOpen, Steps};
+ghost use Rattle.session.specs.Answers.{record_of, Starts, Opens, verdict_of, GoesOn, StepsOpen, Steps};
 
 use refusal::Cause;
+use short_list::ShortList;
 use standing::{Job, Place, Round};
 
 // What a step answers.
@@ -71,21 +72,49 @@ impl Session {
     }
 }
 
-// Open session: 1 to 9, 13, 11, 12; then layer 1, round 0, and the output as the claim.
-pub fn open(circuit: &[u32], input: &[u32], output: u32, coins: &[u32]) -> Result<Session, Cause>
-    ensures { opening_of result ≡ open_answer circuit.now input.now output coins.now }
+// The first standing claim, or the first of 1 to 9, 21, 13, 11 and 12: with it the whole check begins, as an opening does.
+pub fn start(
+    circuit: &[u32],
+    input: &[u32],
+    outputs: &[u32],
+    coins: &[u32],
+) -> Result<u32, Cause>
+    ensures { Starts circuit.now input.now outputs.now coins.now result }
 {
     legality::check_lists(circuit, input)?;
-    if layout::prime(circuit) <= output {
-        return Err(Cause::OutputWord);
-    }
+    standing::check_outputs(circuit, outputs)?;
     standing::check_coins(circuit, coins)?;
-    Ok(Session {
-        layer: 1,
-        round: 0,
-        claim: output,
-        open: true,
-    })
+    let f = layout::field(circuit);
+    let point = standing::first_point(circuit, coins);
+    Ok(extension::extend(f, outputs, point))
+}
+
+// What Open answers: the record or a refusal, and the coins before any message, none where it refuses.
+#[derive(Clone, Copy, PartialEq, Eq, Debug)]
+pub struct Opening {
+    pub session: Result<Session, Cause>,
+    pub coins: ShortList,
+}
+
+// Open session: layer 1, round 0, and the first claim, unless it refuses.
+pub fn open(circuit: &[u32], input: &[u32], outputs: &[u32], coins: &[u32]) -> Opening
+    ensures { Opens circuit.now input.now outputs.now coins.now result }
+{
+    match start(circuit, input, outputs, coins) {
+        Ok(claim) => Opening {
+            session: Ok(Session {
+                layer: 1,
+                round: 0,
+                claim,
+                open: true,
+            }),
+            coins: ShortList::new(standing::first_point(circuit, coins)),
+        },
+        Err(cause) => Opening {
+            session: Err(cause),
+            coins: ShortList::new(&[]),
+        },
+    }
 }
 
 // A refusal, and the record that it leaves.

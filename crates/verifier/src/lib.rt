@@ -1,4 +1,4 @@
-// The whole check of an argued output.
+// The whole check of argued outputs.
 #![tactic(auto)]
 
 ghost use Rattle.std.specs.Prelude.{◌≡◌, length};
@@ -61,17 +61,17 @@ fn walk(job: Job, first: u32, messages: &[u32]) -> Result<(), Cause>
     }
 }
 
-// Check, whole: 1 to 9, 13, 11, 12, 14, then the walk.
+// Check, whole: 1 to 9, 21, 13, 11, 12, 14, then the walk.
 pub fn check(
     circuit: &[u32],
     input: &[u32],
-    output: u32,
+    outputs: &[u32],
     coins: &[u32],
     messages: &[u32],
 ) -> Result<(), Cause>
-    ensures { cause_of result ≡ check_answer circuit.now input.now output coins.now messages.now }
+    ensures { cause_of result ≡ check_answer circuit.now input.now outputs.now coins.now messages.now }
 {
-    let opened = session::open(circuit, input, output, coins)?;
+    let claim = session::start(circuit, input, outputs, coins)?;
     if messages.len() != standing::message_words(circuit) {
         return Err(Cause::MessageLength);
     }
@@ -80,5 +80,5 @@ pub fn check(
         input,
         coins,
     };
-    walk(job, opened.claim, messages)
+    walk(job, claim, messages)
 }
