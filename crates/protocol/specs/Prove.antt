@@ -1,6 +1,6 @@
 -- The honest messages, and both forms of Prove.
 -- Assumes nothing.
-use Rattle.std.specs.Prelude.{ℕ, zero, suc, ◌-◌, ◌≤◌, ◌&&◌, cond, eqb, ltb, leb, length, take, drop, get_or}
+use Rattle.std.specs.Prelude.{ℕ, zero, suc, ◌-◌, ◌≤◌, Bool, ◌&&◌, cond, eqb, ltb, leb, length, take, drop, get_or}
 use mathlib.Core.List.{List, [], flatten}
 use Rattle.lists.specs.Buffer.{over}
 use Rattle.algebra.specs.Numbers.{words}
@@ -60,10 +60,14 @@ prove_buffer c input cs buffer =
 abbrev pub place_of : List ℕ → List ℕ → Place
 place_of c prefix = get_or (rounds c) (length prefix - output_exponent c) (place 0 0)
 
+-- whether a message follows so many coins: those before any message are among them, and not all n
+abbrev pub followed : List ℕ → ℕ → Bool
+followed c coins = leb (output_exponent c) coins && ltb coins (coin_count c)
+
 unfoldable pub prove_one_cause : List ℕ → List ℕ → List ℕ → List ℕ → ℕ
 prove_one_cause c input prefix buffer =
     first (lists_cause c input)
-    (need (leb (output_exponent c) (length prefix) && ltb (length prefix) (coin_count c)) 11
+    (need (followed c (length prefix)) 11
     (need (all_below (prime_of c) prefix) 12
     (need (leb (message_length c (place_of c prefix)) (length buffer)) 10 0)))
 

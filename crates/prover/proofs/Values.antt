@@ -4,7 +4,9 @@ use Prim.Native.Nat.{ℕ, ◌^◌, ◌≤◌, ◌<◌}
 use mathlib.Core.Path.{◌≡◌, sym, ap, ◌∙◌, subst}
 use mathlib.Core.List.{List, [], flatten}
 use native.Mathlib.Omega.{arith}
-use lib.ListN.{length, get_or}
+use lib.Dec.{eqb}
+use lib.ListN.{length}
+use mathlib.Core.Bool.{cond}
 use borrow.Author.Tests.{le-leb}
 use Rattle.lists.specs.Each.{All}
 use Rattle.lists.proofs.Each.{all_at}
@@ -14,16 +16,15 @@ use Rattle.circuit.specs.Limits.{max_values}
 use Rattle.circuit.specs.Circuit.{prime_of, depth, exponent_at, gates_before, value_count}
 use Rattle.circuit.specs.Legal.{lists_cause}
 use Rattle.circuit.specs.Sized.{LegalCircuit}
-use Rattle.circuit.specs.Values.{layers, values_at, value}
+use Rattle.circuit.specs.Values.{layers, values_at, outputs}
 use Rattle.circuit.proofs.Loading.{legal_lists}
 use Rattle.circuit.proofs.Layers.{layer_sizes, values_are_residues, length_all_layers}
 use Rattle.circuit.proofs.Values.{layer_part, layer_room, all_size}
 use Rattle.circuit.proofs.Largest.{in_limits}
 use Rattle.evaluation.specs.Layer.{AllValues}
-use Rattle.evaluation.specs.Evaluate.{Evaluates, evaluate_cause, evaluate_buffer}
-use Rattle.std.specs.Prelude.{Result}
-use Rattle.refusal.specs.declared.Cause.{Cause}
-use Rattle.evaluation.proofs.Evaluating.{output_first}
+use Rattle.short_list.specs.Short.{short}
+use Rattle.evaluation.specs.Evaluate.{evaluation_by, outputs_in, evaluate_cause, evaluate_answer, evaluate_buffer, Evaluates}
+use Rattle.evaluation.specs.declared.Evaluated.{Evaluated}
 use Rattle.protocol.specs.Rounds.{place, AtRound}
 use Rattle.protocol.specs.Judge.{message_length}
 use Rattle.messages.specs.Writing.{values_in, Writable}
@@ -33,17 +34,25 @@ module _ (c input : List ℕ) (e : lists_cause c input ≡ 0) where
   legal = (legal_lists c input e).circuit
 
   -- what an evaluation leaves in a working array
-  pub evaluated : (before after : List ℕ) (r : Result ℕ Cause) → length before ≡ max_values → Evaluates c input before r after → AllValues c input after
-  unfolding evaluate_buffer evaluate_cause
-  evaluated before after r size v =
-      let room : value_count c ≤ length before = omega (arith, size, (in_limits c legal).values) in
-      let holds : after ≡ over (flatten (layers c input)) before = v.buffer ∙ simp (e, le-leb (value_count c) (length before) room) in
-      subst (AllValues c input) (sym holds)
-      (front_over max_values (flatten (layers c input)) before size (omega (arith, all_size c input e)))
+  module _ (before after : List ℕ) (r : Evaluated) (size : length before ≡ max_values) (v : Evaluates c input before r after) where
+    none : evaluate_cause c input before ≡ 0
+    unfolding evaluate_cause
+    none =
+        let room : value_count c ≤ length before = omega (arith, size, (in_limits c legal).values) in
+        simp (e, le-leb (value_count c) (length before) room)
 
-  -- the output is the first of all values
-  pub output_of : (values : List ℕ) → AllValues c input values → get_or values 0 0 ≡ value c input
-  output_of values a = output_first c input e values a
+    pub outputs_told : r.outputs ≡ short (outputs c input)
+    unfolding evaluate_answer
+    outputs_told = v.row ∙ ap (λ (k : ℕ). short (outputs_in (evaluation_by k (outputs c input)))) none
+
+    pub all_written : AllValues c input after
+    unfolding evaluate_buffer
+    all_written =
+        let holds : after ≡ over (flatten (layers c input)) before =
+        v.buffer ∙ ap (λ (k : ℕ). cond (eqb k 0) (over (flatten (layers c input)) before) before) none in
+        subst (AllValues c input) (sym holds)
+        (front_over max_values (flatten (layers c input)) before size
+        (let most = (in_limits c legal).values in omega (arith, all_size c input e)))
 
   module _ (values : List ℕ) (a : AllValues c input values) where
     pub layer_values_lem : (layer : ℕ) → layer ≤ depth c → values_in c layer values ≡ values_at c input layer

@@ -1,35 +1,50 @@
 // The prover: the honest messages, all of them or the one that follows a coin prefix.
 #![tactic(auto)]
 
-ghost use Rattle.std.specs.Prelude.{◌≡◌, ◌≤◌, ◌<◌, length};
-ghost use Rattle.circuit.specs.Circuit.{coin_count, message_words};
+ghost use Rattle.std.specs.Prelude.{◌≡◌, ◌≤◌, true, length};
+ghost use Rattle.circuit.specs.Circuit.{message_words};
 ghost use Rattle.circuit.specs.Limits.{max_values};
 ghost use Rattle.circuit.specs.Legal.{lists_cause};
 ghost use Rattle.circuit.specs.Sized.{LegalCircuit};
+ghost use Rattle.circuit.specs.Values.{outputs};
 ghost use Rattle.protocol.specs.Rounds.{AtRound};
+ghost use Rattle.protocol.specs.Prove.{followed};
 ghost use Rattle.standing.specs.Standing.{as_place};
+ghost use Rattle.short_list.specs.Short.{short};
 ghost use Rattle.evaluation.specs.Layer.{AllValues};
 ghost use Rattle.prover.specs.Writing.{Writes};
-ghost use Rattle.prover.specs.Answers.{Proves, ProvesOne};
+ghost use Rattle.prover.specs.Answers.{refused_proof, Proves, ProvesOne};
 
 use evaluation::MAX_VALUES;
 use refusal::Cause;
+use short_list::ShortList;
 use standing::{Job, Place, Round};
 
-// An output, and the number of message words that were written for it.
+// What Prove answers: the number of message words that were written, or a refusal, and the outputs, none where it refuses.
 #[derive(Clone, Copy, PartialEq, Eq, Debug)]
 pub struct Proof {
-    pub output: u32,
-    pub words: usize,
+    pub words: Result<usize, Cause>,
+    pub outputs: ShortList,
 }
 
-// Writes the values of all layers, the output's first, to the front of an array for the largest circuit's.
-fn fill_values(circuit: &[u32], input: &[u32], values: &mut [u32])
+// Writes the values of all layers, the outputs first, to the front of an array for the largest circuit's, and answers the outputs.
+fn fill_values(circuit: &[u32], input: &[u32], values: &mut [u32]) -> ShortList
     requires { (lists_cause circuit.now input.now ≡ 0) × (length values.old ≡ max_values) }
-    ensures { AllValues circuit.now input.now values.new }
+    ensures answer { result ≡ short (outputs circuit.now input.now) }
+    ensures written { AllValues circuit.now input.now values.new }
 {
     // Nothing is refused: the lists are legal, and the array holds the values of the largest circuit.
-    let _ = evaluation::evaluate(circuit, input, values);
+    evaluation::evaluate(circuit, input, values).outputs
+}
+
+// A refusal.
+fn refusal(cause: Cause) -> Proof
+    ensures { result ≡ refused_proof cause }
+{
+    Proof {
+        words: Err(cause),
+        outputs: ShortList::new(&[]),
+    }
 }
 
 // Writes all messages, each directly after the one before it.
@@ -38,7 +53,7 @@ fn write_all(job: Job, messages: &mut [u32]) -> Proof
     ensures { Writes job.entry.circuit.now job.entry.input.now job.entry.coins.now messages.old result messages.new }
 {
     let mut values = [0u32; MAX_VALUES];
-    fill_values(job.circuit, job.input, &mut values);
+    let outputs = fill_values(job.circuit, job.input, &mut values);
     let mut n = standing::coins_before(job.circuit, 1);
     let mut at = 0;
     // Not with `..=`: such a loop ends on two paths, and each asks for a turn's proof.
@@ -56,35 +71,42 @@ fn write_all(job: Job, messages: &mut [u32]) -> Proof
         }
     }
     Proof {
-        output: values[0],
-        words: at,
+        words: Ok(at),
+        outputs,
     }
 }
 
-// Prove, whole: 1 to 9, 11, 12, 10; then the output and the words written.
+// Prove, whole: 1 to 9, 11, 12, 10; then the outputs and the words written.
 pub fn prove(
     circuit: &[u32],
     input: &[u32],
     coins: &[u32],
     messages: &mut [u32],
-) -> Result<Proof, Cause>
+) -> Proof
     ensures { Proves circuit.now input.now coins.now messages.old result messages.new }
 {
-    let job = Job::check(circuit, input, coins)?;
-    if messages.len() < standing::message_words(job.circuit) {
-        return Err(Cause::BufferShort);
+    match Job::check(circuit, input, coins) {
+        Err(cause) => refusal(cause),
+        Ok(job) if standing::message_words(circuit) <= messages.len() => write_all(job, messages),
+        Ok(_) => refusal(Cause::BufferShort),
     }
-    Ok(write_all(job, messages))
+}
+
+// Whether a message follows so many coins.
+fn followed(circuit: &[u32], coins: usize) -> bool
+    ensures { LegalCircuit circuit.now → result ≡ followed circuit.now coins }
+{
+    standing::coins_before(circuit, 1) <= coins && coins < standing::coin_count(circuit)
 }
 
 // The round whose message follows these many coins. The rounds left fall by a layer's until they are fewer: a `for` over the layers would count
 // them down too, and have to answer where none is found.
 fn place_after(circuit: &[u32], coins: usize) -> Place
-    requires { LegalCircuit circuit.now × (coins < coin_count circuit.now) }
+    requires { LegalCircuit circuit.now × (followed circuit.now coins ≡ true) }
     ensures { AtRound circuit.now (as_place result) coins }
 {
     let mut layer = 1;
-    let mut round = coins;
+    let mut round = coins - standing::coins_before(circuit, 1);
     loop {
         let line = standing::line_round(circuit, layer);
         if round <= line {
@@ -106,7 +128,7 @@ pub fn prove_one(
     ensures { ProvesOne circuit.now input.now prefix.now buffer.old result buffer.new }
 {
     legality::check_lists(circuit, input)?;
-    if standing::coin_count(circuit) <= prefix.len() {
+    if !followed(circuit, prefix.len()) {
         return Err(Cause::CoinCount);
     }
     if !legality::all_below(prefix, layout::prime(circuit)) {
@@ -118,7 +140,7 @@ pub fn prove_one(
         return Err(Cause::BufferShort);
     }
     let mut values = [0u32; MAX_VALUES];
-    fill_values(circuit, input, &mut values);
+    let _ = fill_values(circuit, input, &mut values);
     let here = Round {
         circuit,
         place,

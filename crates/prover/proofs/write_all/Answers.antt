@@ -10,7 +10,8 @@ use Rattle.protocol.specs.Rounds.{place}
 use Rattle.protocol.specs.Prove.{message_from}
 use Rattle.protocol.proofs.Coins.{its_circuit}
 use Rattle.standing.proofs.Loops.{first_layer}
-use Rattle.prover.proofs.Values.{layer_values_lem, writable, output_of}
+use Rattle.prover.proofs.Values.{layer_values_lem, writable}
+use Rattle.std.specs.Prelude.{Ok}
 use Rattle.prover.proofs.Transcripts.{all_start, all_end, layer_starts, layer_ends}
 use Rattle.prover.proofs.Transcripts.{is_due, round_place, enough, lent_room, next_round}
 use borrow.Author.Rules.{rules}
@@ -44,8 +45,8 @@ loop-round-preserved c =
     let now = is_due _ _ _ _ c.args.job.counted c.requires (c.loop-round.invariant.2 _ c.requires c.loop-layer.invariant.1) c.loop-round.invariant.1 c.loop-round-test.true in
     let spot = round_place _ _ _ _ now in
     let part : List ℕ = take (length at.messages - at.at) (drop at.at at.messages) in
-    let ready = writable _ _ lists _ c.fill_values.ensures _ _ _ part spot (lent_room _ _ _ _ now) in
-    let same = layer_values_lem _ _ lists _ c.fill_values.ensures c.loop-layer.layer spot.last in
+    let ready = writable _ _ lists _ c.fill_values-outputs.ensures.written _ _ _ part spot (lent_room _ _ _ _ now) in
+    let same = layer_values_lem _ _ lists _ c.fill_values-outputs.ensures.written c.loop-layer.layer spot.last in
     let said : List ℕ → List ℕ = λ (vs : List ℕ). message_from a.job.circuit.now vs (place c.loop-layer.layer at.round) (take at.n a.job.coins.now) in (
       at.invariant.0,
       at.invariant.1,
@@ -64,4 +65,4 @@ loop-layer-preserved c = (
 pub returns : goal.returns
 returns c =
     let done = all_end _ _ _ _ c.args.job.counted c.requires c.loop-layer.invariant.1 (omega (arith, c.loop-layer-test.false, c.loop-layer.invariant.0)) in
-    record { output = output_of _ _ c.args.job.counted.lists _ (c.fill_values.ensures); words = done.0; buffer = done.1 }
+    record { words = ap Ok done.0; outputs = c.fill_values-outputs.ensures.answer; buffer = done.1 }
