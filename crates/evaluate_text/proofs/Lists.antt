@@ -1,9 +1,9 @@
--- What is printed for lists, from what an evaluation answers, whose buffer is never too short. No text is longer than the line of a refusal.
+-- What is printed for lists, from what an evaluation answers, whose buffer is never too short. No text is longer than the limit.
 -- Assumes nothing.
 use Prim.Native.Nat.{ℕ, zero, suc, ◌≤◌}
 use mathlib.Core.Path.{◌≡◌, refl, ap, ◌∙◌}
 use mathlib.Core.Bool.{Bool}
-use mathlib.Core.List.{List, [], ◌∷◌}
+use mathlib.Core.List.{List}
 use native.Mathlib.Omega.{arith}
 use lib.Dec.{leb}
 use lib.ListN.{length}
@@ -11,17 +11,17 @@ use borrow.Author.Tests.{le-leb}
 use Rattle.refusal.specs.Order.{need, first}
 use Rattle.circuit.specs.Circuit.{value_count}
 use Rattle.circuit.specs.Legal.{lists_cause}
-use Rattle.circuit.specs.Values.{value}
+use Rattle.circuit.specs.Values.{outputs}
 use Rattle.circuit.specs.Limits.{max_values}
 use Rattle.circuit.proofs.Loading.{legal_lists}
+use Rattle.circuit.proofs.Layers.{outputs_short}
 use Rattle.circuit.proofs.Largest.{in_limits}
-use Rattle.evaluation.specs.Evaluate.{output, refused, evaluated, evaluate_cause, evaluate_answer}
+use Rattle.evaluation.specs.Evaluate.{evaluated, refused, evaluation_by, evaluate_cause, evaluate_answer}
 use Rattle.text.specs.Lines.{ascii}
 use Rattle.text.proofs.Lengths.{line_short}
-use Rattle.printing.specs.Limits.{max_line}
 use Rattle.printing.specs.Printed.{refused_text, answer_text}
 use Rattle.printing.proofs.Lengths.{answer_short}
-use Rattle.evaluate_text.specs.Output.{value_text, lists_text}
+use Rattle.evaluate_text.specs.Output.{max_text, outputs_text, lists_text}
 
 module _ (c input buffer : List ℕ) (room : max_values ≤ length buffer) where
   same_cause : evaluate_cause c input buffer ≡ lists_cause c input
@@ -37,21 +37,22 @@ module _ (c input buffer : List ℕ) (room : max_values ≤ length buffer) where
 
   pub printed_refused : (n : ℕ) → refused n ≡ evaluate_answer c input buffer → refused_text n ≡ lists_text c input
   unfolding evaluate_answer lists_text
-  printed_refused n e = go (lists_cause c input) (e ∙ ap (λ (k : ℕ). evaluated k (value c input)) same_cause)
+  printed_refused n e = go (lists_cause c input) (e ∙ ap (λ (k : ℕ). evaluation_by k (outputs c input)) same_cause)
     where
-      go : (k : ℕ) → refused n ≡ evaluated k (value c input) → refused_text n ≡ answer_text k (value_text (value c input))
+      go : (k : ℕ) → refused n ≡ evaluation_by k (outputs c input) → refused_text n ≡ answer_text k (outputs_text (outputs c input))
       go zero e = absurd (let z : ◌≡◌ {A = ℕ} 0 1 = cc in omega arith)
       go (suc k) e = let same : n ≡ suc k = cc in ap refused_text same
 
-  pub printed_output : (y : ℕ) → output y ≡ evaluate_answer c input buffer → value_text y ≡ lists_text c input
+  pub printed_outputs : (ys : List ℕ) → evaluated ys ≡ evaluate_answer c input buffer → outputs_text ys ≡ lists_text c input
   unfolding evaluate_answer lists_text
-  printed_output y e = go (lists_cause c input) (e ∙ ap (λ (k : ℕ). evaluated k (value c input)) same_cause)
+  printed_outputs ys e = go (lists_cause c input) (e ∙ ap (λ (k : ℕ). evaluation_by k (outputs c input)) same_cause)
     where
-      go : (k : ℕ) → output y ≡ evaluated k (value c input) → value_text y ≡ answer_text k (value_text (value c input))
-      go zero e = let same : y ≡ value c input = cc in ap value_text same
+      go : (k : ℕ) → evaluated ys ≡ evaluation_by k (outputs c input) → outputs_text ys ≡ answer_text k (outputs_text (outputs c input))
+      go zero e = let same : ys ≡ outputs c input = cc in ap outputs_text same
       go (suc k) e = absurd (let z : ◌≡◌ {A = ℕ} 0 1 = cc in omega arith)
 
-pub lists_short : (c input : List ℕ) → length (lists_text c input) ≤ max_line
+pub lists_short : (c input : List ℕ) → length (lists_text c input) ≤ max_text
 unfolding lists_text
 lists_short c input =
-    answer_short (lists_cause c input) _ max_line (omega arith) (λ e. omega (arith, line_short (ascii "output") (value c input ∷ [])))
+    answer_short (lists_cause c input) _ max_text (omega arith)
+    (λ e. omega (arith, line_short (ascii "output") (outputs c input), outputs_short c input e))

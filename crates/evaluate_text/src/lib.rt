@@ -1,4 +1,4 @@
-// What the program `evaluate` prints for lists: the output of a circuit and input, or why there is none.
+// What the program `evaluate` prints for lists: the outputs of a circuit and input, or why there are none.
 #![tactic(auto)]
 
 ghost use Rattle.text.specs.Wrote.{Wrote};
@@ -10,8 +10,9 @@ pub fn write_lists(circuit: &[u32], input: &[u32], text: &mut [u8]) -> usize
     ensures { Wrote (lists_text circuit.now input.now) text.old text.new result }
 {
     let mut values = [0u32; evaluation::MAX_VALUES];
-    match evaluation::evaluate(circuit, input, &mut values) {
+    let evaluated = evaluation::evaluate(circuit, input, &mut values);
+    match evaluated.outcome {
         Err(cause) => printing::write_refused(cause, text),
-        Ok(output) => text::put_line(text, b"output", &[output]),
+        Ok(()) => text::put_line(text, b"output", evaluated.outputs.list()),
     }
 }

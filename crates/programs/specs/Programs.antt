@@ -31,4 +31,4 @@ program_text program bytes = printed (text_of program) (given (arrays_of program
 abbrev pub longest : Program → ℕ
 longest Transcript = max_text
 longest Verdict = max_line
-longest Evaluate = max_line
+longest Evaluate = output.max_text

@@ -4,7 +4,7 @@
 
 ghost use Rattle.std.specs.Prelude.{◌≡◌, take};
 ghost use Rattle.circuit.specs.Limits.{max_outputs};
-ghost use Rattle.short_list.specs.Short.{short};
+ghost use Rattle.short_list.specs.Short.{short, list_of};
 
 use layout::MAX_OUTPUTS;
 
@@ -24,5 +24,12 @@ impl ShortList {
         let mut row = [0u32; MAX_OUTPUTS];
         let count = lists::put(&mut row, words);
         ShortList { count, words: row }
+    }
+
+    // The list.
+    pub fn list(&self) -> &[u32]
+        ensures { result.now ≡ list_of self.now }
+    {
+        &self.words[..self.count.min(MAX_OUTPUTS)]
     }
 }

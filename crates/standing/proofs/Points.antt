@@ -130,18 +130,3 @@ module _ (c : List ℕ) (past : List ℕ) where
       let small = exponent_small c 0 (layer_of c h.there.legal 0 zero-le) in
       take_all row_length past (omega (arith, few, small)) ∙ sym (take_all (output_exponent c) past (omega arith))
       ∙ ap (λ (i : ℕ). point_at c i past) e
-
--- the lesser of a list's length and k takes as many words as k
-pub least_front : (k : ℕ) (l : List ℕ) (r : ℕ) → r ≡ min (length l) k → take r l ≡ take k l
-least_front k l r e = go (dec_lt (length l) k)
-  where
-    go : Dec (length l < k) → take r l ≡ take k l
-    go (yes h) = take_all r l (omega arith) ∙ sym (take_all k l (omega arith))
-    go (no h) = let s : r ≡ k = omega arith in ap (λ (i : ℕ). take i l) s
-
-pub least_rest : (k : ℕ) (l : List ℕ) (r : ℕ) → r ≡ min (length l) k → drop r l ≡ drop k l
-least_rest k l r e = go (dec_lt (length l) k)
-  where
-    go : Dec (length l < k) → drop r l ≡ drop k l
-    go (yes h) = drop_of_length-le l {i = r} (omega arith) ∙ sym (drop_of_length-le l {i = k} (omega arith))
-    go (no h) = let s : r ≡ k = omega arith in ap (λ (i : ℕ). drop i l) s

@@ -18,7 +18,8 @@ use Rattle.protocol.specs.Judge.{fixed, point_at, gates_above}
 use Rattle.protocol.proofs.Points.{point_more}
 use Rattle.standing.specs.Standing.{AtLayer, Row, Stands, PointStands}
 use Rattle.standing.specs.declared.Stand.{Stand}
-use Rattle.standing.proofs.Points.{least_front, least_rest, row_whole, point_length}
+use Rattle.lists.proofs.Parts.{least_front, least_rest}
+use Rattle.standing.proofs.Points.{row_whole, point_length}
 
 -- the coins before the layer's own
 abbrev pub own_start : ℕ → List ℕ → ℕ

@@ -99,7 +99,7 @@ pub fn message_words(circuit: &[u32]) -> usize
 }
 
 // The coins before any message, which form the first point; of fewer coins all.
-#[tactic(auto, using(crate::proofs::Points::least_front))]
+#[tactic(auto, using(lists::proofs::Parts::least_front))]
 pub fn first_point<'a>(circuit: &[u32], coins: &'a [u32]) -> &'a [u32]
     ensures { result.now ≡ first_point circuit.now coins.now }
 {

@@ -15,7 +15,7 @@ use Rattle.refusal.proofs.Order.{first_none}
 use Rattle.circuit.specs.Circuit.{message_words}
 use Rattle.circuit.specs.Legal.{lists_cause}
 use Rattle.circuit.specs.Sized.{LegalCircuit}
-use Rattle.circuit.specs.Values.{value}
+use Rattle.circuit.specs.Values.{outputs}
 use Rattle.circuit.proofs.Loading.{legal_lists}
 use Rattle.protocol.specs.Check.{need_coins}
 use Rattle.circuit.proofs.Largest.{in_limits}
@@ -45,11 +45,11 @@ module _ (c input cs : List ℕ) where
       }
 
   -- what a proof wrote is the transcript
-  pub record Printed (y n : ℕ) (after : List ℕ) : Type 0 where
+  pub record Printed (ys : List ℕ) (n : ℕ) (after : List ℕ) : Type 0 where
     pub legal : LegalCircuit c
     pub inside : n ≤ length after
     pub words : length (take n after) ≡ message_words c
-    pub text : proof_text c y (take n after) ≡ lists_text c input cs
+    pub text : proof_text c ys (take n after) ≡ lists_text c input cs
 
   module _ (buffer : List ℕ) (room : max_message_words ≤ length buffer) where
     -- the prover's refusals
@@ -66,24 +66,24 @@ module _ (c input cs : List ℕ) where
 
     pub printed_refused : (n : ℕ) → refused n ≡ prove_answer c input cs buffer → refused_text n ≡ lists_text c input cs
     unfolding prove_answer lists_text
-    printed_refused n e = go (lists_refusal c input cs) (e ∙ ap (λ (k : ℕ). proof_of k (value c input) (message_words c)) same_cause)
+    printed_refused n e = go (lists_refusal c input cs) (e ∙ ap (λ (k : ℕ). proof_of k (outputs c input) (message_words c)) same_cause)
       where
-        go : (k : ℕ) → refused n ≡ proof_of k (value c input) (message_words c)
-            → refused_text n ≡ answer_text k (proof_text c (value c input) ms)
+        go : (k : ℕ) → refused n ≡ proof_of k (outputs c input) (message_words c)
+            → refused_text n ≡ answer_text k (proof_text c (outputs c input) ms)
         go zero e = absurd (let z : ◌≡◌ {A = ℕ} 0 1 = cc in omega arith)
         go (suc k) e = let same : n ≡ suc k = cc in ap refused_text same
 
-    pub printed_proved : (y n : ℕ) (after : List ℕ) → proved y n ≡ prove_answer c input cs buffer → after ≡ prove_buffer c input cs buffer
-        → Printed y n after
+    pub printed_proved : (ys : List ℕ) (n : ℕ) (after : List ℕ) → proved ys n ≡ prove_answer c input cs buffer → after ≡ prove_buffer c input cs buffer
+        → Printed ys n after
     unfolding prove_answer prove_buffer lists_text
-    printed_proved y n after e eb = go (lists_refusal c input cs) refl
+    printed_proved ys n after e eb = go (lists_refusal c input cs) refl
       where
-        go : (k : ℕ) → lists_refusal c input cs ≡ k → Printed y n after
+        go : (k : ℕ) → lists_refusal c input cs ≡ k → Printed ys n after
         go zero none =
             let cause : prove_cause c input cs buffer ≡ 0 = same_cause ∙ none in
-            let answer : proved y n ≡ proved (value c input) (message_words c) =
-            e ∙ ap (λ (k : ℕ). proof_of k (value c input) (message_words c)) cause in
-            let output : y ≡ value c input = cc in
+            let answer : proved ys n ≡ proved (outputs c input) (message_words c) =
+            e ∙ ap (λ (k : ℕ). proof_of k (outputs c input) (message_words c)) cause in
+            let told : ys ≡ outputs c input = cc in
             let count : n ≡ message_words c = cc in
             let p = whole none in
             let wrote : after ≡ over ms buffer = eb ∙ ap (λ (k : ℕ). cond (eqb k 0) (over ms buffer) buffer) cause in
@@ -94,10 +94,10 @@ module _ (c input cs : List ℕ) where
               inside = omega (arith, length-take n after, words, count);
               words = words;
               text =
-                  ap₂ (λ (x : ℕ) (ws : List ℕ). proof_text c x ws) output front
-                  ∙ ap (λ (k : ℕ). answer_text k (proof_text c (value c input) ms)) (sym none);
+                  ap₂ (λ (l ws : List ℕ). proof_text c l ws) told front
+                  ∙ ap (λ (k : ℕ). answer_text k (proof_text c (outputs c input) ms)) (sym none);
             }
         go (suc k) some =
-            let answer : proved y n ≡ refused (suc k) =
-            e ∙ ap (λ (k : ℕ). proof_of k (value c input) (message_words c)) (same_cause ∙ some) in
+            let answer : proved ys n ≡ refused (suc k) =
+            e ∙ ap (λ (k : ℕ). proof_of k (outputs c input) (message_words c)) (same_cause ∙ some) in
             absurd (let z : ◌≡◌ {A = ℕ} 0 1 = cc in omega arith)

@@ -10,16 +10,18 @@ ghost use Rattle.text.specs.Lines.{line_text};
 ghost use Rattle.text.specs.Wrote.{Wrote};
 ghost use Rattle.transcript_text.specs.Transcript.{word_of, messages_text, proof_text, lists_text};
 
-use layout::{MAX_DEPTH, MAX_EXPONENT};
+use layout::{MAX_DEPTH, MAX_EXPONENT, MAX_OUTPUT_EXPONENT, MAX_OUTPUTS};
 use standing::Place;
 
 // The coins and message words of the largest circuit.
-const MAX_COINS: usize = MAX_DEPTH * (2 * MAX_EXPONENT as usize + 1);
+const MAX_COINS: usize =
+    MAX_OUTPUT_EXPONENT as usize + MAX_DEPTH * (2 * MAX_EXPONENT as usize + 1);
 
 const MAX_MESSAGE_WORDS: usize = MAX_DEPTH * (7 * MAX_EXPONENT as usize + 1);
 
-// The bytes of its printed transcript: the output's line, a word and an end for each round's, and eleven for each message word.
-pub const MAX_TEXT: usize = 17 + 5 * MAX_COINS + 11 * MAX_MESSAGE_WORDS;
+// The bytes of its printed transcript: a word and an end for the outputs' line and each round's, no more rounds than coins, and eleven for each
+// output and message word.
+pub const MAX_TEXT: usize = 6 + 11 * MAX_OUTPUTS + 5 * MAX_COINS + 11 * MAX_MESSAGE_WORDS;
 
 // Writes the line of a round. In two calls, since the words are byte strings of two lengths.
 fn write_message(circuit: &[u32], place: Place, message: &[u32], text: &mut [u8]) -> usize
@@ -53,12 +55,12 @@ fn write_messages(circuit: &[u32], messages: &[u32], text: &mut [u8]) -> usize
     to
 }
 
-// Writes the lines of a proof: the output and all rounds.
-fn write_proof(circuit: &[u32], output: u32, messages: &[u32], text: &mut [u8]) -> usize
+// Writes the lines of a proof: the outputs and all rounds.
+fn write_proof(circuit: &[u32], outputs: &[u32], messages: &[u32], text: &mut [u8]) -> usize
     requires { LegalCircuit circuit.now × (length messages.now ≡ message_words circuit.now) }
-    ensures { Wrote (proof_text circuit.now output messages.now) text.old text.new result }
+    ensures { Wrote (proof_text circuit.now outputs.now messages.now) text.old text.new result }
 {
-    let at = text::put_line(text, b"claim", &[output]);
+    let at = text::put_line(text, b"claim", outputs);
     at + write_messages(circuit, messages, &mut text[at..])
 }
 
@@ -69,8 +71,9 @@ pub fn write_lists(circuit: &[u32], input: &[u32], coins: &[u32], text: &mut [u8
         text.old text.new result }
 {
     let mut messages = [0u32; MAX_MESSAGE_WORDS];
-    match prover::prove(circuit, input, coins, &mut messages) {
+    let proof = prover::prove(circuit, input, coins, &mut messages);
+    match proof.words {
         Err(cause) => printing::write_refused(cause, text),
-        Ok(proof) => write_proof(circuit, proof.output, &messages[..proof.words], text),
+        Ok(count) => write_proof(circuit, proof.outputs.list(), &messages[..count], text),
     }
 }

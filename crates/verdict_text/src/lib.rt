@@ -29,9 +29,11 @@ pub fn write_lists(
     ensures { Wrote (lists_text circuit.now input.now coins.now transcript.now)
         text.old text.new result }
 {
-    let [output, messages @ ..] = transcript else {
+    if transcript.is_empty() {
         return printing::write_refused(Cause::BytesUnfit, text);
-    };
-    let outcome = verifier::check(circuit, input, *output, coins, messages);
+    }
+    let count = transcript.len().min(layout::layer_width(circuit, 0));
+    let (outputs, messages) = transcript.split_at(count);
+    let outcome = verifier::check(circuit, input, outputs, coins, messages);
     write_outcome(outcome, text)
 }
