@@ -1,3 +1,3 @@
-pub mod Opening
+pub mod Opened
 pub mod Limits
 pub mod Proved

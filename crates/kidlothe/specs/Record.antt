@@ -12,8 +12,8 @@ abbrev pub session_words : Record Place → List ℕ
 session_words s = s.round.layer ∷ s.round.round ∷ s.claim ∷ cond s.opened 1 0 ∷ []
 
 -- what Open leaves: a refusal leaves the words
-abbrev pub open_words : List ℕ → List ℕ → ℕ → List ℕ → List ℕ → List ℕ
-open_words c input y cs before = cond (eqb (open_cause c input y cs) 0) (session_words (opened_at c y cs)) before
+abbrev pub open_words : List ℕ → List ℕ → List ℕ → List ℕ → List ℕ → List ℕ
+open_words c input ys cs before = cond (eqb (open_cause c input ys cs) 0) (session_words (opened_at c ys cs)) before
 
 -- what Step leaves, from the record after it: the words of a record that is not open stay, whatever they are
 abbrev pub words_of_step : List ℕ → Record Place → List ℕ

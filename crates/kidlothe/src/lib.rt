@@ -8,40 +8,38 @@ ghost use Rattle.refusal.specs.Number.{cause_of};
 ghost use Rattle.circuit.specs.Legal.{load_answer};
 ghost use Rattle.protocol.specs.Check.{check_answer};
 ghost use Rattle.xdr.specs.Read.{answer_of};
-ghost use Rattle.evaluation.specs.Evaluate.{evaluation_of};
 ghost use Rattle.session.specs.Answers.{record_of, verdict_of};
-ghost use Rattle.prover.specs.Answers.{proved_of, message_of};
+ghost use Rattle.prover.specs.Answers.{message_of};
 ghost use Rattle.kidlothe.specs.Record.{session_of, session_words, words_of_step};
-ghost use Rattle.kidlothe.specs.Answers.{plain_evaluation, plain_counts, plain_proof, plain_written, plain_step, ExportsEvaluate, ExportsRead, ExportsProve, ExportsProveOne, ExportsOpen, ExportsStep};
+ghost use Rattle.kidlothe.specs.Answers.{plain_evaluated, plain_counts, plain_proved, plain_written, plain_step, ExportsEvaluate, ExportsRead, ExportsProve, ExportsProveOne, ExportsOpen, ExportsStep};
 
+use evaluation::Evaluated;
 use refusal::Cause;
 use session::{Session, Verdict};
+use short_list::ShortList;
 
 // The words of a session's record, and the word of an open one.
 pub const SESSION_WORDS: usize = 4;
 
 const OPEN: u32 = 1;
 
-// Five structs, one for what each operation answers: no two have the same fields.
+// Six structs, one for what each operation answers: no two have the same fields.
 
 // What Evaluate answers.
 #[repr(C)]
-#[derive(Clone, Copy, Default)]
+#[derive(Clone, Copy)]
 pub struct Evaluation {
     pub refusal: u32,
-    pub output: u32,
+    pub outputs: ShortList,
 }
 
-impl From<Result<u32, Cause>> for Evaluation {
-    ghost from_gives = { λ answer plain. plain ≡ plain_evaluation (evaluation_of answer) };
+impl From<Evaluated> for Evaluation {
+    ghost from_gives = { λ evaluated plain. plain ≡ plain_evaluated evaluated };
 
-    fn from(answer: Result<u32, Cause>) -> Evaluation {
-        match answer {
-            Ok(output) => Evaluation { refusal: 0, output },
-            Err(cause) => Evaluation {
-                refusal: cause.into(),
-                ..Evaluation::default()
-            },
+    fn from(evaluated: Evaluated) -> Evaluation {
+        Evaluation {
+            refusal: number(evaluated.outcome),
+            outputs: evaluated.outputs,
         }
     }
 }
@@ -83,27 +81,22 @@ impl From<Result<[u32; 4], Cause>> for Counts {
 
 // What Prove answers for a whole proof.
 #[repr(C)]
-#[derive(Clone, Copy, Default)]
+#[derive(Clone, Copy)]
 pub struct Proof {
     pub refusal: u32,
-    pub output: u32,
+    pub outputs: ShortList,
     pub words: usize,
 }
 
-impl From<Result<prover::Proof, Cause>> for Proof {
-    ghost from_gives = { λ answer plain. plain ≡ plain_proof (proved_of answer) };
+impl From<prover::Proof> for Proof {
+    ghost from_gives = { λ proof plain. plain ≡ plain_proved proof };
 
-    fn from(answer: Result<prover::Proof, Cause>) -> Proof {
-        match answer {
-            Ok(proof) => Proof {
-                refusal: 0,
-                output: proof.output,
-                words: proof.words,
-            },
-            Err(cause) => Proof {
-                refusal: cause.into(),
-                ..Proof::default()
-            },
+    fn from(proof: prover::Proof) -> Proof {
+        let written = Written::from(proof.words);
+        Proof {
+            refusal: written.refusal,
+            outputs: proof.outputs,
+            words: written.words,
         }
     }
 }
@@ -128,6 +121,14 @@ impl From<Result<usize, Cause>> for Written {
             },
         }
     }
+}
+
+// What Open answers: a refusal, or the coins before any message.
+#[repr(C)]
+#[derive(Clone, Copy)]
+pub struct Opening {
+    pub refusal: u32,
+    pub coins: ShortList,
 }
 
 // What Step answers: a refusal, an acceptance, or the coin with which the session goes on.
@@ -214,13 +215,13 @@ pub fn kidlothe_prove_one(
 pub fn kidlothe_check(
     circuit: &[u32],
     input: &[u32],
-    output: u32,
+    outputs: &[u32],
     coins: &[u32],
     messages: &[u32],
 ) -> u32
-    ensures { result ≡ check_answer circuit.now input.now output coins.now messages.now }
+    ensures { result ≡ check_answer circuit.now input.now outputs.now coins.now messages.now }
 {
-    number(verifier::check(circuit, input, output, coins, messages))
+    number(verifier::check(circuit, input, outputs, coins, messages))
 }
 
 // The record that four words stand for. A function, since neither the record nor an array is a type of this crate, so that no From can be
@@ -260,22 +261,29 @@ fn step_words(before: &[u32; SESSION_WORDS], after: Session) -> [u32; SESSION_WO
     }
 }
 
-// Open session: 0 is opened. By a match, which shows that the words are written where nothing is refused, and only there.
+// Open session. By a match, which shows that the words are written where nothing is refused, and only there.
 pub fn kidlothe_open(
     circuit: &[u32],
     input: &[u32],
-    output: u32,
+    outputs: &[u32],
     coins: &[u32],
     session: &mut [u32; SESSION_WORDS],
-) -> u32
-    ensures { ExportsOpen circuit.now input.now output coins.now session.old result session.new }
+) -> Opening
+    ensures { ExportsOpen circuit.now input.now outputs.now coins.now session.old result session.new }
 {
-    match session::open(circuit, input, output, coins) {
+    let opening = session::open(circuit, input, outputs, coins);
+    match opening.session {
         Ok(opened) => {
             *session = session_words(opened);
-            0
+            Opening {
+                refusal: 0,
+                coins: opening.coins,
+            }
         }
-        Err(cause) => u32::from(cause),
+        Err(cause) => Opening {
+            refusal: cause.into(),
+            coins: opening.coins,
+        },
     }
 }
 

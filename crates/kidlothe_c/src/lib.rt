@@ -6,7 +6,7 @@ ghost use Rattle.circuit.specs.Legal.{load_answer};
 ghost use Rattle.protocol.specs.Check.{check_answer};
 ghost use Rattle.kidlothe.specs.Answers.{ExportsEvaluate, ExportsRead, ExportsProve, ExportsProveOne, ExportsOpen, ExportsStep};
 
-use kidlothe::{Counts, Evaluation, Proof, SESSION_WORDS, Step, Written};
+use kidlothe::{Counts, Evaluation, Opening, Proof, SESSION_WORDS, Step, Written};
 
 // Load.
 #[unsafe(no_mangle)]
@@ -67,27 +67,27 @@ pub extern "C" fn kidlothe_prove_one(
 pub extern "C" fn kidlothe_check(
     circuit: &[u32],
     input: &[u32],
-    output: u32,
+    outputs: &[u32],
     coins: &[u32],
     messages: &[u32],
 ) -> u32
-    ensures { result ≡ check_answer circuit.now input.now output coins.now messages.now }
+    ensures { result ≡ check_answer circuit.now input.now outputs.now coins.now messages.now }
 {
-    kidlothe::kidlothe_check(circuit, input, output, coins, messages)
+    kidlothe::kidlothe_check(circuit, input, outputs, coins, messages)
 }
 
-// Open session: 0 is opened.
+// Open session.
 #[unsafe(no_mangle)]
 pub extern "C" fn kidlothe_open(
     circuit: &[u32],
     input: &[u32],
-    output: u32,
+    outputs: &[u32],
     coins: &[u32],
     session: &mut [u32; SESSION_WORDS],
-) -> u32
-    ensures { ExportsOpen circuit.now input.now output coins.now session.old result session.new }
+) -> Opening
+    ensures { ExportsOpen circuit.now input.now outputs.now coins.now session.old result session.new }
 {
-    kidlothe::kidlothe_open(circuit, input, output, coins, session)
+    kidlothe::kidlothe_open(circuit, input, outputs, coins, session)
 }
 
 // Step.
