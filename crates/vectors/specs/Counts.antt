@@ -2,6 +2,6 @@
 -- Assumes nothing.
 use Rattle.std.specs.Prelude.{ℕ, ◌^◌}
 
--- all lists of three coins below 13
+-- all lists of four coins below 13
 abbrev pub all_lists : ℕ
-all_lists = 13 ^ 3
+all_lists = 13 ^ 4

@@ -5,6 +5,7 @@ ghost use Rattle.circuit.specs.Legal.{load_answer};
 ghost use Rattle.evaluation.specs.Evaluate.{Evaluates};
 ghost use Rattle.cases.specs.Parts.{list_at};
 
+use evaluation::Evaluated;
 use refusal::Cause;
 use std::io::{Result, Write};
 
@@ -20,14 +21,14 @@ pub fn evaluate<W: Write>(
     output: &mut W,
     lists: &[u32],
     lent: &mut [u32],
-) -> Result<std::result::Result<u32, Cause>>
+) -> Result<Evaluated>
     ensures { IfOk result (λ r. Evaluates (list_at 0 lists.now) (list_at 1 lists.now) lent.old r lent.new) }
 {
     let evaluated = evaluation::evaluate(cases::list(lists, 0), cases::list(lists, 1), lent);
-    crate::print(
-        output,
-        evaluated,
-        |output, value| write!(output, "value {value}"),
-    )?;
+    crate::print(output, evaluated.outcome, |output, ()| {
+        output.write_all(b"value")?;
+        cases::print_numbers(output, evaluated.outputs.list())?;
+        Ok(())
+    })?;
     Ok(evaluated)
 }

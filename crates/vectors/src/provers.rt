@@ -11,7 +11,7 @@ pub fn prove<W: Write>(
     output: &mut W,
     lists: &[u32],
     lent: &mut [u32],
-) -> Result<std::result::Result<Proof, Cause>>
+) -> Result<Proof>
     ensures { IfOk result (λ r. Proves (list_at 0 lists.now) (list_at 1 lists.now) (list_at 2 lists.now) lent.old r lent.new) }
 {
     let proved = prover::prove(
@@ -20,8 +20,10 @@ pub fn prove<W: Write>(
         cases::list(lists, 2),
         lent,
     );
-    crate::print(output, proved, |output, proof| {
-        write!(output, "proved {} {}", proof.output, proof.words)
+    crate::print(output, proved.words, |output, words| {
+        write!(output, "proved {words}")?;
+        cases::print_numbers(output, proved.outputs.list())?;
+        Ok(())
     })?;
     Ok(proved)
 }

@@ -1,14 +1,13 @@
 // Cases of check, open and step. Each prints the operation's answer and gives it back.
-ghost use Rattle.std.specs.Prelude.{◌≡◌, get_or, IfOk};
+ghost use Rattle.std.specs.Prelude.{◌≡◌, IfOk};
 ghost use Rattle.refusal.specs.Number.{cause_of};
 ghost use Rattle.protocol.specs.Check.{check_answer};
-ghost use Rattle.protocol.specs.Session.{open_answer};
-ghost use Rattle.session.specs.Answers.{opening_of, Steps};
+ghost use Rattle.session.specs.Answers.{Opens, Steps};
 ghost use Rattle.cases.specs.Parts.{list_at};
 ghost use Rattle.vectors.specs.Record.{session_in};
 
 use refusal::Cause;
-use session::{Session, Stepped, Verdict};
+use session::{Opening, Session, Stepped, Verdict};
 use std::io::{Result, Write};
 
 fn print_record<W: Write>(output: &mut W, session: Session) -> Result<()> {
@@ -34,12 +33,12 @@ fn record(figures: &[u32]) -> Session
 
 pub fn check<W: Write>(output: &mut W, lists: &[u32]) -> Result<std::result::Result<(), Cause>>
     ensures { IfOk result (λ r. cause_of r
-        ≡ check_answer (list_at 0 lists.now) (list_at 1 lists.now) (get_or (list_at 2 lists.now) 0 0) (list_at 3 lists.now) (list_at 4 lists.now)) }
+        ≡ check_answer (list_at 0 lists.now) (list_at 1 lists.now) (list_at 2 lists.now) (list_at 3 lists.now) (list_at 4 lists.now)) }
 {
     let outcome = verifier::check(
         cases::list(lists, 0),
         cases::list(lists, 1),
-        lists::word(cases::list(lists, 2), 0),
+        cases::list(lists, 2),
         cases::list(lists, 3),
         cases::list(lists, 4),
     );
@@ -47,18 +46,18 @@ pub fn check<W: Write>(output: &mut W, lists: &[u32]) -> Result<std::result::Res
     Ok(outcome)
 }
 
-pub fn open<W: Write>(output: &mut W, lists: &[u32]) -> Result<std::result::Result<Session, Cause>>
-    ensures { IfOk result (λ r. opening_of r
-        ≡ open_answer (list_at 0 lists.now) (list_at 1 lists.now) (get_or (list_at 2 lists.now) 0 0) (list_at 3 lists.now)) }
+pub fn open<W: Write>(output: &mut W, lists: &[u32]) -> Result<Opening>
+    ensures { IfOk result (λ r. Opens (list_at 0 lists.now) (list_at 1 lists.now) (list_at 2 lists.now) (list_at 3 lists.now) r) }
 {
     let opening = session::open(
         cases::list(lists, 0),
         cases::list(lists, 1),
-        lists::word(cases::list(lists, 2), 0),
+        cases::list(lists, 2),
         cases::list(lists, 3),
     );
-    crate::print(output, opening, |output, session| {
+    crate::print(output, opening.session, |output, session| {
         output.write_all(b"opened")?;
+        cases::print_numbers(output, opening.coins.list())?;
         print_record(output, session)
     })?;
     Ok(opening)
