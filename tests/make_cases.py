@@ -22,7 +22,7 @@ import read  # noqa: E402
 import textform  # noqa: E402
 
 # The last change that has landed, by the number of its vectors.
-CHANGE = 2
+CHANGE = 3
 # The numbers of the operations in crates/vectors/src/main.rt.
 OPERATIONS = {"load": 1, "evaluate": 2, "read": 3, "prove": 4, "prove_one": 5, "check": 6, "open": 7, "step": 8, "transcript": 9,
               "verdict": 10, "output": 11, "count_whole": 12, "count_single": 13, "count_rule": 14}
@@ -48,10 +48,11 @@ def vectors():
 
 def program_cases(case):
     """The case of the program `verdict` that a check gives, or that of `evaluate` that an evaluation gives, if a program can have it: an
-    evaluation that has no room for its values has no counterpart, nor have lists that are too long for the bytes that a program reads."""
+    evaluation that has no room for its values has no counterpart, nor has a check whose outputs `verdict` cannot tell from its messages, nor have
+    lists that are too long for the bytes that a program reads."""
     args, (word, *numbers) = case["args"], case["answer"]
-    if case["op"] == "check":
-        op, lists = "verdict", [args["circuit"], args["input"], args["coins"], [args["output"]] + args["messages"]]
+    if case["op"] == "check" and is_told_apart(case):
+        op, lists = "verdict", [args["circuit"], args["input"], args["coins"], args["outputs"] + args["messages"]]
     elif case["op"] == "evaluate" and case["answer"] != ["refused", 10]:
         op, lists = "output", [args["circuit"], args["input"]]
         word = "output" if word == "value" else word
@@ -62,12 +63,22 @@ def program_cases(case):
         yield {**case, "op": op, "args": {"bytes": data}, "answer": text_of([word] + numbers) + "\n", "after": {}}
 
 
+def is_told_apart(check):
+    """Whether `verdict` answers a check alike. It takes as many outputs as the circuit has from the front of one array: that they were not so many
+    shows only where all words together are too few, and an array without words is another refusal."""
+    args = check["args"]
+    count = len(args["outputs"]) + len(args["messages"])
+    return count > 0 and (check["answer"] != ["refused", 21] or count < textform.output_count(args["circuit"]))
+
+
 def words(numbers):
     return b"".join(n.to_bytes(4, "big") for n in numbers)
 
 
 def text_of(answer):
-    return " ".join(map(str, answer))
+    """An answer's word and numbers; outputs and coins, which are lists, stand last."""
+    lists = [part for part in answer if isinstance(part, list)]
+    return " ".join(map(str, itertools.chain([part for part in answer if not isinstance(part, list)], *lists)))
 
 
 def note_of(case):

@@ -12,10 +12,10 @@ NAMES = ("circuit", "input", "coins", "transcript")
 # The kinds of gates by their numbers.
 KINDS = ("empty", "add", "mul", "sub")
 MAX_WORD = 2 ** 32 - 1
-# The most layers of a legal circuit, its largest width exponent, and the words of the longest list, which are also the most of an array. A list
-# with a greater exponent is refused before its gates are counted; the other two are for what `./job` says of 3 and 20, and for the test cases.
-MAX_DEPTH, MAX_EXPONENT = 12, 8
-MAX_COUNT = 2 + MAX_DEPTH + 3 * (1 + (MAX_DEPTH - 1) * 2 ** MAX_EXPONENT)
+# The most layers of a legal circuit, its largest k_0 and its largest other exponent, and the words of the longest list, which are also the most of
+# an array. After an exponent above the largest no gates are counted; the others are for what `./job` says of 3, 4 and 20, and for the test cases.
+MAX_DEPTH, MAX_OUTPUT_EXPONENT, MAX_EXPONENT = 12, 4, 8
+MAX_COUNT = 3 + MAX_DEPTH + 3 * (2 ** MAX_OUTPUT_EXPONENT + (MAX_DEPTH - 1) * 2 ** MAX_EXPONENT)
 NUMBERS_A_LINE = 8
 
 Line = collections.namedtuple("Line", "place parts")
@@ -111,17 +111,45 @@ def raw_words(lines):
     return words
 
 
-def circuit_words(lines):
+def name_of(place, part):
+    # A name is shown on a terminal, beside numbers.
+    if not part[0].isalpha() or not part.isprintable():
+        raise Malformed(place, quoted(part), "a name that begins with a letter and can be printed")
+    return part
+
+
+def named_outputs(lines, exponent):
+    """What the outputs are called, if a line says it: a name for each gate of layer 0."""
+    if lines[0].parts[:1] != ["outputs"]:
+        return []
+    line = lines.popleft()
+    names = [name_of(line.place, part) for part in line.parts[1:]]
+    if exponent <= MAX_EXPONENT and len(names) != 2 ** exponent:
+        raise Malformed(line.place, f"'outputs' with names after it: {len(names)}", f"{2 ** exponent}, by the exponent {exponent} of layer 0")
+    repeated = [name for name, times in collections.Counter(names).items() if times > 1]
+    if repeated:
+        raise Malformed(line.place, f"{quoted(repeated[0])} more than once", "a name of its own for each output")
+    return names
+
+
+def circuit_of(lines):
+    """A circuit's words, and what the text calls its outputs."""
     if lines[0].parts[:1] == ["words"]:
-        return raw_words(lines)
+        return raw_words(lines), []
     prime = numbers_of(lines.popleft(), "prime", 1, 1)
-    exponents = numbers_of(lines.popleft(), "exponents", 1)
-    words = prime + [len(exponents)] + exponents
-    for layer, exponent in enumerate([0] + exponents[:-1]):
+    exponents = numbers_of(lines.popleft(), "exponents", 2)
+    names = named_outputs(lines, exponents[0])
+    depth = len(exponents) - 1
+    words = prime + [depth] + exponents
+    for layer, exponent in enumerate(exponents[:-1]):
         words += layer_words(lines, layer, exponent)
     if lines[0].parts:
-        raise Malformed(lines[0].place, found(lines[0]), f"the end of the text, after {len(exponents)} layers")
-    return words
+        raise Malformed(lines[0].place, found(lines[0]), f"the end of the text, after {depth} layers")
+    return words, names
+
+
+def circuit_words(lines):
+    return circuit_of(lines)[0]
 
 
 def list_words(lines):
@@ -137,7 +165,7 @@ def message_words(line):
 def transcript_words(lines):
     if lines[0].parts[:1] == ["words"]:
         return raw_words(lines)
-    words = numbers_of(lines.popleft(), "claim", 1, 1)
+    words = numbers_of(lines.popleft(), "claim", 1)
     while lines[0].parts:
         words += message_words(lines.popleft())
     return words
@@ -147,6 +175,11 @@ def words_of(kind, name, data):
     """The words of a text of a kind (one of NAMES); messages call the text by its name."""
     read = {"circuit": circuit_words, "input": list_words, "coins": list_words, "transcript": transcript_words}[kind]
     return read(lines_of(name, data))
+
+
+def output_names(name, data):
+    """What a circuit's text calls its outputs, in their order; none if it does not say. Names are for people: the words have none."""
+    return circuit_of(lines_of(name, data))[1]
 
 
 # Words to bytes and back.
@@ -189,10 +222,16 @@ def raw_text(words):
 
 
 def exponents_of(circuit):
-    """A circuit's exponents, none where the list ends before them."""
+    """A circuit's exponents, k_0 first; none where the list ends before them or D is 0."""
     depth = circuit[1] if len(circuit) > 1 else 0
-    exponents = circuit[2:2 + depth]
-    return exponents if len(exponents) == depth else []
+    exponents = circuit[2:3 + depth]
+    return exponents if 0 < depth == len(exponents) - 1 else []
+
+
+def output_count(circuit):
+    """How many outputs a circuit has; 0 where the list ends before its exponents, or k_0 is so great that they are not counted."""
+    exponents = exponents_of(circuit)
+    return 2 ** exponents[0] if exponents and exponents[0] <= MAX_EXPONENT else 0
 
 
 def gate_text(kind, *wires):
@@ -205,7 +244,7 @@ def circuit_text(words):
     gates = [tuple(words[at:at + 3]) for at in range(2 + len(exponents), len(words), 3)]
     sayable = all(len(gate) == 3 and gate[0] < len(KINDS) and (gate[0] or gate == (0, 0, 0)) for gate in gates)
     # After too great an exponent the words do not say where a layer ends: its width is set to more gates than there are.
-    widths = [2 ** k if k <= MAX_EXPONENT else len(words) for k in [0] + exponents[:-1]]
+    widths = [2 ** k if k <= MAX_EXPONENT else len(words) for k in exponents[:-1]]
     if not exponents or not sayable or len(gates) != sum(widths):
         return raw_text(words)
     text, at = text_line("prime", words[0]) + text_line("exponents", *exponents), 0
@@ -217,10 +256,10 @@ def circuit_text(words):
 
 def transcript_text(words, circuit):
     """Message by message where the words are as many as the circuit's exponents call for, raw elsewhere."""
-    exponents = exponents_of(circuit)
-    if not exponents or len(words) != 1 + sum(7 * k + 1 for k in exponents):
+    exponents, at = exponents_of(circuit)[1:], output_count(circuit)
+    if not at or len(words) != at + sum(7 * k + 1 for k in exponents):
         return raw_text(words)
-    text, at = text_line("claim", words[0]), 1
+    text = text_line("claim", *words[:at])
     for k in exponents:
         for _ in range(2 * k):
             text += text_line("sum", *words[at:at + 3])
