@@ -32,11 +32,13 @@ impl fmt::Display for Kinds {
     }
 }
 
-/// The shape of a circuit: as many layers as its depth, one width exponent for all of them, and the kinds of its gates.
+/// The shape of a circuit: as many layers as its depth, the exponent of its outputs, one for all layers below them, and
+/// the kinds of its gates.
 #[derive(Clone, Copy)]
 pub struct Shape {
     pub prime: u32,
     pub depth: usize,
+    pub output_exponent: usize,
     pub exponent: usize,
     pub kinds: Kinds,
 }
@@ -46,7 +48,7 @@ pub struct Job {
     pub circuit: Vec<u32>,
     pub input: Vec<u32>,
     pub coins: Vec<u32>,
-    pub output: u32,
+    pub outputs: Vec<u32>,
     pub messages: Vec<u32>,
     /// The words of each message.
     pub lengths: Vec<usize>,
@@ -86,9 +88,9 @@ fn gates(draw: &mut Draw, kinds: Kinds, count: usize, next: u32) -> Vec<u32> {
 
 fn circuit(draw: &mut Draw, shape: Shape) -> Vec<u32> {
     let width = 1 << shape.exponent;
-    let mut words = vec![shape.prime, shape.depth as u32];
+    let mut words = vec![shape.prime, shape.depth as u32, shape.output_exponent as u32];
     words.extend(vec![shape.exponent as u32; shape.depth]);
-    words.extend(gates(draw, shape.kinds, 1, width));
+    words.extend(gates(draw, shape.kinds, 1 << shape.output_exponent, width));
     for _ in 1..shape.depth {
         words.extend(gates(draw, shape.kinds, width as usize, width));
     }
@@ -106,10 +108,10 @@ fn job(draw: &mut Draw, shape: Shape) -> Job {
     let circuit = circuit(draw, shape);
     let input = draw.residues(shape.prime, 1 << shape.exponent);
     let lengths = lengths(shape);
-    let coins = draw.residues(shape.prime, lengths.len());
+    let coins = draw.residues(shape.prime, shape.output_exponent + lengths.len());
     let mut messages = vec![0; lengths.iter().sum()];
     let proof = kidlothe::prove(&circuit, &input, &coins, &mut messages).expect("the lists are legal");
-    Job { circuit, input, coins, output: proof.output, messages, lengths }
+    Job { circuit, input, coins, outputs: proof.outputs.to_vec(), messages, lengths }
 }
 
 /// So many jobs of a shape, so that no branch predictor learns one by heart.

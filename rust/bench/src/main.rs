@@ -1,5 +1,5 @@
 //! The proved operations timed beside the plain implementation, in one run, call by call in turn. Prints a table of
-//! times and ratios, and how both change with the width, the depth and the kinds of gates of a circuit.
+//! times and ratios, and how both change with the width, the depth, the kinds of gates and the outputs of a circuit.
 //!
 //!     bench [FOLDER]      with a folder, writes benchmark.md and growth.svg there too
 mod circuits;

@@ -10,12 +10,19 @@ pub struct Operation {
     pub words: fn(&Job) -> usize,
 }
 
-pub const OPERATIONS: [Operation; 4] = [
-    Operation { name: "evaluate", proved: evaluate_proved, plain: evaluate_plain, words: evaluate_words },
-    Operation { name: "prove", proved: prove_proved, plain: prove_plain, words: all_words },
-    Operation { name: "check", proved: check_proved, plain: check_plain, words: all_words },
-    Operation { name: "session", proved: session_proved, plain: session_plain, words: session_words },
-];
+const EVALUATE: Operation =
+    Operation { name: "evaluate", proved: evaluate_proved, plain: evaluate_plain, words: evaluate_words };
+const PROVE: Operation = Operation { name: "prove", proved: prove_proved, plain: prove_plain, words: all_words };
+const CHECK: Operation = Operation { name: "check", proved: check_proved, plain: check_plain, words: all_words };
+const OPEN: Operation = Operation { name: "open", proved: open_proved, plain: open_plain, words: open_words };
+const SESSION: Operation =
+    Operation { name: "session", proved: session_proved, plain: session_plain, words: session_words };
+
+/// The operations that are timed at every shape.
+pub const OPERATIONS: [Operation; 4] = [EVALUATE, PROVE, CHECK, SESSION];
+
+/// Those to whose time the number of outputs may matter: of a session, its opening.
+pub const ON_OUTPUTS: [Operation; 4] = [EVALUATE, PROVE, CHECK, OPEN];
 
 fn evaluate_words(job: &Job) -> usize {
     job.circuit.len() + job.input.len() + values(job)
@@ -23,28 +30,32 @@ fn evaluate_words(job: &Job) -> usize {
 
 /// The values of all layers.
 fn values(job: &Job) -> usize {
-    let gates = (job.circuit.len() - 2 - job.circuit[1] as usize) / 3;
+    let gates = (job.circuit.len() - 3 - job.circuit[1] as usize) / 3;
     gates + job.input.len()
 }
 
+fn open_words(job: &Job) -> usize {
+    job.circuit.len() + job.input.len() + job.outputs.len() + job.coins.len()
+}
+
 fn all_words(job: &Job) -> usize {
-    job.circuit.len() + job.input.len() + job.coins.len() + job.messages.len()
+    open_words(job) + job.messages.len()
 }
 
 /// Every step reads circuit, input and coins again.
 fn session_words(job: &Job) -> usize {
     let lists = job.circuit.len() + job.input.len() + job.coins.len();
-    lists * (1 + job.lengths.len()) + job.messages.len()
+    open_words(job) + lists * job.lengths.len() + job.messages.len()
 }
 
 fn evaluate_proved(job: &Job) -> u32 {
     let mut buffer = [0; kidlothe::MAX_VALUES];
-    kidlothe::evaluate(&job.circuit, &job.input, &mut buffer).expect("the lists are legal")
+    kidlothe::evaluate(&job.circuit, &job.input, &mut buffer).expect("the lists are legal")[job.outputs.len() - 1]
 }
 
 fn evaluate_plain(job: &Job) -> u32 {
     let mut buffer = [0; kidlothe::MAX_VALUES];
-    plain::evaluate(&job.circuit, &job.input, &mut buffer).expect("the lists are legal")
+    plain::evaluate(&job.circuit, &job.input, &mut buffer).expect("the lists are legal")[job.outputs.len() - 1]
 }
 
 fn prove_proved(job: &Job) -> u32 {
@@ -60,11 +71,29 @@ fn prove_plain(job: &Job) -> u32 {
 }
 
 fn check_proved(job: &Job) -> u32 {
-    kidlothe::check(&job.circuit, &job.input, job.output, &job.coins, &job.messages).is_ok().into()
+    kidlothe::check(&job.circuit, &job.input, &job.outputs, &job.coins, &job.messages).is_ok().into()
 }
 
 fn check_plain(job: &Job) -> u32 {
-    plain::check(&job.circuit, &job.input, job.output, &job.coins, &job.messages).is_ok().into()
+    plain::check(&job.circuit, &job.input, &job.outputs, &job.coins, &job.messages).is_ok().into()
+}
+
+fn opened_proved(job: &Job) -> kidlothe::Session {
+    let opening = kidlothe::Session::open(&job.circuit, &job.input, &job.outputs, &job.coins);
+    opening.expect("the lists are legal").session
+}
+
+fn opened_plain(job: &Job) -> plain::Session {
+    let (_, session) = plain::open(&job.circuit, &job.input, &job.outputs, &job.coins).expect("the lists are legal");
+    session
+}
+
+fn open_proved(job: &Job) -> u32 {
+    opened_proved(job).claim()
+}
+
+fn open_plain(job: &Job) -> u32 {
+    opened_plain(job).claim
 }
 
 /// The messages of a transcript, one after another.
@@ -77,8 +106,7 @@ fn messages(job: &Job) -> impl Iterator<Item = &[u32]> {
 }
 
 fn session_proved(job: &Job) -> u32 {
-    let mut session =
-        kidlothe::Session::open(&job.circuit, &job.input, job.output, &job.coins).expect("the lists are legal");
+    let mut session = opened_proved(job);
     let mut accepted = false;
     for message in messages(job) {
         let answer = session.step(&job.circuit, &job.input, &job.coins, message);
@@ -88,7 +116,7 @@ fn session_proved(job: &Job) -> u32 {
 }
 
 fn session_plain(job: &Job) -> u32 {
-    let mut session = plain::open(&job.circuit, &job.input, job.output, &job.coins).expect("the lists are legal");
+    let mut session = opened_plain(job);
     let mut accepted = false;
     for message in messages(job) {
         let answer = plain::step(&job.circuit, &job.input, &job.coins, &mut session, message);

@@ -1,5 +1,5 @@
 //! Times of both implementations on the same jobs, in turn, so that what else the machine does meets both alike.
-use crate::circuits::{jobs, Shape};
+use crate::circuits::{jobs, Job, Shape};
 use crate::operations::Operation;
 use std::hint::black_box;
 use std::time::Instant;
@@ -26,15 +26,36 @@ fn median(mut times: Vec<f64>) -> f64 {
     times[times.len() / 2]
 }
 
-/// The seconds of one call, over so many turns through all jobs.
-fn time<T>(call: fn(&T) -> u32, jobs: &[T], turns: usize) -> f64 {
-    let start = Instant::now();
-    for _ in 0..turns {
-        for job in jobs {
-            black_box(call(black_box(job)));
+/// What is timed: a call on each of these jobs in turn.
+#[derive(Clone, Copy)]
+struct Work<'a> {
+    call: fn(&Job) -> u32,
+    jobs: &'a [Job],
+}
+
+impl Work<'_> {
+    /// The seconds of one call, over so many turns through all jobs.
+    fn time(self, turns: usize) -> f64 {
+        let start = Instant::now();
+        for _ in 0..turns {
+            for job in self.jobs {
+                black_box((self.call)(black_box(job)));
+            }
         }
+        start.elapsed().as_secs_f64() / (turns * self.jobs.len()) as f64
     }
-    start.elapsed().as_secs_f64() / (turns * jobs.len()) as f64
+}
+
+/// Pairs of times of one call, taken one after the other.
+fn pairs(one: Work, other: Work) -> Vec<(f64, f64)> {
+    let once = one.time(1) * one.jobs.len() as f64;
+    let turns = (SHORTEST / once).ceil().max(1.0) as usize;
+    (0..PAIRS).map(|_| (one.time(turns), other.time(turns))).collect()
+}
+
+/// The median of the ratios.
+fn ratio(pairs: &[(f64, f64)]) -> f64 {
+    median(pairs.iter().map(|pair| pair.0 / pair.1).collect())
 }
 
 /// Times an operation at a shape. Both implementations must answer alike.
@@ -43,14 +64,19 @@ pub fn times(operation: &Operation, shape: Shape) -> Times {
     for job in &jobs {
         assert_eq!((operation.proved)(job), (operation.plain)(job), "{} answers differ", operation.name);
     }
-    let once = time(operation.proved, &jobs, 1) * JOBS as f64;
-    let turns = (SHORTEST / once).ceil().max(1.0) as usize;
-    let pairs: Vec<(f64, f64)> =
-        (0..PAIRS).map(|_| (time(operation.proved, &jobs, turns), time(operation.plain, &jobs, turns))).collect();
+    let [proved, plain] = [operation.proved, operation.plain].map(|call| Work { call, jobs: &jobs });
+    let pairs = pairs(proved, plain);
     Times {
         proved: median(pairs.iter().map(|pair| pair.0).collect()),
         plain: median(pairs.iter().map(|pair| pair.1).collect()),
-        ratio: median(pairs.iter().map(|pair| pair.0 / pair.1).collect()),
+        ratio: ratio(&pairs),
         words: (operation.words)(&jobs[0]),
     }
+}
+
+/// The proved library's time for an operation at a shape over its time at another one.
+pub fn times_over(operation: &Operation, shape: Shape, other: Shape) -> f64 {
+    let jobs = [shape, other].map(|shape| jobs(shape, JOBS));
+    let [one, other] = jobs.each_ref().map(|jobs| Work { call: operation.proved, jobs });
+    ratio(&pairs(one, other))
 }

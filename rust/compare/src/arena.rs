@@ -28,6 +28,9 @@ impl Arena {
         if !plain.rest_is_untouched(call) {
             self.fail("a word outside the answer was written", kind, call, &plain);
         }
+        if !plain.row_fits(call) {
+            self.fail("the outputs or the coins are not those that the lists call for", kind, call, &plain);
+        }
         if !plain.record_fits(call) {
             self.fail("the record is not the one that goes with the answer", kind, call, &plain);
         }

@@ -38,8 +38,10 @@ impl Operation {
         match self {
             Load => &[List::Circuit],
             Evaluate => &[List::Circuit, List::Input],
-            Prove | ProveOne | Open => &[List::Circuit, List::Input, List::Coins],
-            Check | Step => &[List::Circuit, List::Input, List::Coins, List::Messages],
+            Prove | ProveOne => &[List::Circuit, List::Input, List::Coins],
+            Check => &[List::Circuit, List::Input, List::Outputs, List::Coins, List::Messages],
+            Open => &[List::Circuit, List::Input, List::Outputs, List::Coins],
+            Step => &[List::Circuit, List::Input, List::Coins, List::Messages],
             Read => &[],
         }
     }
@@ -50,6 +52,7 @@ impl Operation {
 pub enum List {
     Circuit,
     Input,
+    Outputs,
     Coins,
     Messages,
 }
@@ -58,9 +61,8 @@ pub enum List {
 #[derive(Clone, Debug)]
 pub struct Call {
     pub operation: Operation,
-    /// Circuit, input, coins, messages.
-    lists: [Vec<u32>; 4],
-    pub output: u32,
+    /// Circuit, input, outputs, coins, messages.
+    lists: [Vec<u32>; 5],
     /// Layer, round, claim, and 1 for open.
     pub record: [u32; 4],
     pub bytes: Vec<u8>,
@@ -71,25 +73,24 @@ pub struct Call {
 }
 
 impl Call {
-    pub fn new(operation: Operation, circuit: &[u32], input: &[u32], coins: &[u32], messages: &[u32]) -> Self {
+    /// Takes what the operation does of circuit, input, outputs, coins and messages.
+    pub fn new(operation: Operation, lists: [&[u32]; 5]) -> Self {
         let mut call = Call {
             operation,
-            lists: [const { Vec::new() }; 4],
-            output: 0,
+            lists: [const { Vec::new() }; 5],
             record: [0; 4],
             bytes: Vec::new(),
             number: 0,
             buffer: 0,
         };
         for &list in operation.lists() {
-            let words = [circuit, input, coins, messages][list as usize];
-            call.lists[list as usize] = words.to_vec();
+            call.lists[list as usize] = lists[list as usize].to_vec();
         }
         call
     }
 
     pub fn read(bytes: Vec<u8>, number: u32, buffer: usize) -> Self {
-        Call { bytes, number, buffer, ..Call::new(Read, &[], &[], &[], &[]) }
+        Call { bytes, number, buffer, ..Call::new(Read, [&[]; 5]) }
     }
 
     pub fn list(&self, list: List) -> &[u32] {
@@ -110,6 +111,10 @@ impl Call {
 
     pub fn input(&self) -> &[u32] {
         self.list(List::Input)
+    }
+
+    pub fn outputs(&self) -> &[u32] {
+        self.list(List::Outputs)
     }
 
     pub fn coins(&self) -> &[u32] {

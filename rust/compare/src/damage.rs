@@ -23,7 +23,7 @@ fn damage(draw: &mut Draw, call: &mut Call, prime: u32) -> Kind {
         0 | 1 => damage_length(draw, call),
         2 if call.operation != Operation::Load => exchange_lists(draw, call),
         3 => swap_words(draw, call),
-        4 => damage_figure(draw, call, prime),
+        4 if call.operation == Operation::Step => damage_figure(draw, call, prime),
         _ => damage_word(draw, call, prime),
     }
 }
@@ -58,13 +58,10 @@ fn swap_words(draw: &mut Draw, call: &mut Call) -> Kind {
     Kind::Word
 }
 
-/// The output or a figure of the record; operations that take neither are left valid.
+/// A figure of the record.
 fn damage_figure(draw: &mut Draw, call: &mut Call, prime: u32) -> Kind {
-    if call.operation == Operation::Step {
-        let figure = draw.pick(&[0, 1, 2, 2, 3]);
-        call.record[figure] = other_word(draw, call.record[figure], prime);
-    }
-    call.output = other_word(draw, call.output, prime);
+    let figure = draw.pick(&[0, 1, 2, 2, 3]);
+    call.record[figure] = other_word(draw, call.record[figure], prime);
     Kind::Word
 }
 
@@ -95,6 +92,7 @@ pub fn same_remainder(arena: &mut Arena, instance: &Instance) {
     let list = arena.draw.pick(&operation.lists()[1..]);
     let number = match list {
         List::Input => 9,
+        List::Outputs => 13,
         List::Coins => 12,
         _ => 15,
     };

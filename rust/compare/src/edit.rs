@@ -8,7 +8,6 @@ pub enum Edit {
     /// Cuts the list down to a length.
     Cut(List, usize),
     Extend(List, Vec<u32>),
-    Output(u32),
     Record(usize, u32),
     Buffer(usize),
 }
@@ -23,7 +22,6 @@ impl Edit {
             },
             Edit::Cut(list, length) => call.list_mut(list).truncate(length),
             Edit::Extend(list, ref words) => call.list_mut(list).extend(words),
-            Edit::Output(word) => call.output = word,
             Edit::Record(index, word) => call.record[index] = word,
             Edit::Buffer(length) => call.buffer = length,
         }

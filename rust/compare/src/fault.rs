@@ -7,7 +7,7 @@ use crate::gates::UNKNOWN_KIND;
 use crate::instance::Instance;
 use crate::order;
 use crate::outcome::{of_plain, Answer};
-use kidlothe::{MAX_DEPTH, MAX_EXPONENT};
+use kidlothe::{MAX_DEPTH, MAX_EXPONENT, MAX_OUTPUT_EXPONENT};
 
 pub struct Fault {
     pub number: u32,
@@ -31,7 +31,7 @@ impl Fault {
                 let (needed, shorter) = (instance.needed(call), draw.below(instance.needed(call)));
                 Edit::Buffer(draw.pick(&[0, needed - 1, shorter]))
             }
-            13 => Edit::Output(draw.at_least(instance.prime)),
+            11 if call.operation == Operation::ProveOne => prefix_edit(call, instance, draw),
             19 => record_edit(call, instance, draw),
             _ => list_edit(number, call, instance, draw)?,
         };
@@ -49,18 +49,20 @@ impl Fault {
 }
 
 fn head_edit(number: u32, instance: &Instance, draw: &mut Draw) -> Edit {
-    let depth = instance.exponents.len();
-    let length = instance.circuit.len();
+    let depth = instance.depth();
+    let (gates, length) = (instance.gate_start(0), instance.circuit.len());
     match number {
-        1 => Edit::Cut(List::Circuit, draw.below(2)),
+        1 => Edit::Cut(List::Circuit, draw.below(3)),
         2 => Edit::Set(List::Circuit, 0, unlisted(draw)),
         3 => {
             let deeper = draw.at_least(MAX_DEPTH as u32 + 1);
             Edit::Set(List::Circuit, 1, draw.pick(&[0, deeper]))
         }
-        4 if draw.one_in(3) => Edit::Cut(List::Circuit, 2 + draw.below(depth)),
-        4 => Edit::Set(List::Circuit, 2 + draw.below(depth), draw.at_least(MAX_EXPONENT as u32 + 1)),
-        _ if draw.one_in(2) => Edit::Cut(List::Circuit, 2 + depth + draw.below(length - 2 - depth)),
+        4 if draw.one_in(3) => Edit::Cut(List::Circuit, 3 + draw.below(depth)),
+        4 if draw.one_in(2) => Edit::Set(List::Circuit, 2, draw.at_least(MAX_OUTPUT_EXPONENT as u32 + 1)),
+        4 => Edit::Set(List::Circuit, 3 + draw.below(depth), draw.at_least(MAX_EXPONENT as u32 + 1)),
+        _ if draw.one_in(3) => Edit::Set(List::Circuit, 2, other_output_exponent(instance, draw)),
+        _ if draw.one_in(2) => Edit::Cut(List::Circuit, gates + draw.below(length - gates)),
         _ => extension(List::Circuit, draw),
     }
 }
@@ -74,6 +76,12 @@ fn unlisted(draw: &mut Draw) -> u32 {
     } else {
         word
     }
+}
+
+/// One that the limits allow, but that calls for more or fewer gates.
+fn other_output_exponent(instance: &Instance, draw: &mut Draw) -> u32 {
+    let step = 1 + draw.below(MAX_OUTPUT_EXPONENT) as u32;
+    (instance.exponents[0] + step) % (MAX_OUTPUT_EXPONENT as u32 + 1)
 }
 
 /// More words than the list should have, sometimes many more.
@@ -103,24 +111,32 @@ fn bad_wire(instance: &Instance, gate: usize, start: usize, draw: &mut Draw) -> 
     }
 }
 
-/// Faults of the input, the coins and the number of message words.
+/// Faults of the input, the outputs, the coins and the number of message words.
 fn list_edit(number: u32, call: &Call, instance: &Instance, draw: &mut Draw) -> Option<Edit> {
     let list = match number {
         8 | 9 => List::Input,
+        13 | 21 => List::Outputs,
         11 | 12 => List::Coins,
         _ => List::Messages,
     };
     let length = call.list(list).len();
-    if matches!(number, 9 | 12) {
+    if matches!(number, 9 | 12 | 13) {
         let place = (length > 0).then(|| draw.below(length))?;
         return Some(Edit::Set(list, place, draw.at_least(instance.prime)));
     }
-    if number == 11 && call.operation == Operation::ProveOne {
-        let missing = instance.places.len() - length;
-        let more = draw.pick(&[0, 0, 1, 5]);
-        return Some(Edit::Extend(list, (0..missing + more).map(|_| draw.residue(instance.prime)).collect()));
-    }
     Some(if draw.one_in(2) { Edit::Cut(list, draw.pick(&[0, length / 2, length - 1])) } else { extension(list, draw) })
+}
+
+/// A prefix that lacks some of the coins before any message, or one of all coins or more.
+fn prefix_edit(call: &Call, instance: &Instance, draw: &mut Draw) -> Edit {
+    let first = instance.first_coins().len();
+    if first > 0 && draw.one_in(2) {
+        let fewer = draw.below(first);
+        return Edit::Cut(List::Coins, draw.pick(&[first - 1, fewer]));
+    }
+    let missing = instance.coins.len() - call.coins().len();
+    let more = draw.pick(&[0, 0, 1, 5]);
+    Edit::Extend(List::Coins, (0..missing + more).map(|_| draw.residue(instance.prime)).collect())
 }
 
 fn walk_fault(number: u32, call: &Call, instance: &Instance, draw: &mut Draw) -> Option<Fault> {
@@ -187,8 +203,8 @@ fn place_of(call: &Call, instance: &Instance) -> usize {
 }
 
 fn record_edit(call: &Call, instance: &Instance, draw: &mut Draw) -> Edit {
-    let depth = instance.exponents.len() as u32;
-    let k = instance.exponents[call.record[0] as usize - 1];
+    let depth = instance.depth() as u32;
+    let k = instance.exponents[call.record[0] as usize];
     let (deeper, later) = (draw.at_least(depth + 1), draw.at_least(2 * k + 1));
     match draw.below(4) {
         0 => Edit::Record(0, draw.pick(&[0, deeper])),

@@ -1,12 +1,13 @@
 //! Valid inputs: a circuit, its input, coins, and the honest transcript.
 
 use crate::arena::Arena;
-use crate::call::{Call, Operation};
+use crate::call::{Call, List, Operation};
 use crate::draw::Draw;
 use crate::outcome::{value_count, Answer};
-use crate::residues::value;
+use crate::residues::{extension, value};
 use crate::tally::{Feature, Kind};
-use kidlothe::{MAX_CIRCUIT_WORDS, MAX_DEPTH, MAX_EXPONENT};
+use kidlothe::{MAX_CIRCUIT_WORDS, MAX_DEPTH, MAX_EXPONENT, MAX_OUTPUT_EXPONENT};
+use std::iter;
 
 pub const PRIMES: [u32; 4] = [13, 65_537, 2_147_483_647, 4_294_967_291];
 
@@ -33,11 +34,12 @@ pub struct Place {
 
 pub struct Instance {
     pub prime: u32,
+    /// Of all layers, from the outputs to the input.
     pub exponents: Vec<u32>,
     pub circuit: Vec<u32>,
     pub input: Vec<u32>,
     pub coins: Vec<u32>,
-    pub output: u32,
+    pub outputs: Vec<u32>,
     pub messages: Vec<u32>,
     pub places: Vec<Place>,
 }
@@ -52,9 +54,9 @@ impl Instance {
         let width = 1 << exponents[exponents.len() - 1];
         let input = (0..width).map(|_| draw.residue(prime)).collect();
         let places = places(&exponents);
-        let coins = draw_coins(draw, prime, places.len());
-        let (output, messages) = (0, Vec::new());
-        let mut instance = Instance { prime, exponents, circuit, input, coins, output, messages, places };
+        let coins = draw_coins(draw, prime, exponents[0] as usize + places.len());
+        let (outputs, messages) = (Vec::new(), Vec::new());
+        let mut instance = Instance { prime, exponents, circuit, input, coins, outputs, messages, places };
         instance.prove(arena);
         instance
     }
@@ -63,8 +65,8 @@ impl Instance {
         let call = self.call(Operation::Prove, &mut arena.draw);
         let outcome = arena.compare(Kind::Valid, &call);
         match outcome.answer {
-            Answer::Proved(output, words) if words == self.message_words() => {
-                (self.output, self.messages) = (output, outcome.front(words).to_vec());
+            Answer::Proved(outputs, words) if words == self.message_words() => {
+                (self.outputs, self.messages) = (outputs.list().to_vec(), outcome.front(words).to_vec());
             }
             _ => arena.fail("a valid input has no whole proof", Kind::Valid, &call, &outcome),
         }
@@ -75,12 +77,10 @@ impl Instance {
         if operation == Operation::Step {
             return self.step(draw.below(self.places.len()));
         }
-        let coins = match operation {
-            Operation::ProveOne => &self.coins[..draw.below(self.places.len())],
-            _ => &self.coins,
-        };
-        let mut call = Call::new(operation, &self.circuit, &self.input, coins, &self.messages);
-        call.output = self.output;
+        let mut call = self.claim_call(operation, &self.outputs, &self.messages);
+        if operation == Operation::ProveOne {
+            call.list_mut(List::Coins).truncate(self.first_coins().len() + draw.below(self.places.len()));
+        }
         call.buffer = self.needed(&call);
         if call.buffer > 0 {
             call.buffer += draw.pick(&[0, 1, 2, 9]);
@@ -88,12 +88,31 @@ impl Instance {
         call
     }
 
+    /// A call with the instance's lists, but for the outputs that are claimed and the messages that argue for them.
+    pub fn claim_call(&self, operation: Operation, outputs: &[u32], messages: &[u32]) -> Call {
+        Call::new(operation, [&self.circuit, &self.input, outputs, &self.coins, messages])
+    }
+
     /// The step on the honest message at a place, as an honest session would get there.
     pub fn step(&self, place: usize) -> Call {
         let Place { layer, round, .. } = self.places[place];
-        let mut call = Call::new(Operation::Step, &self.circuit, &self.input, &self.coins, self.message(place));
+        let mut call = self.claim_call(Operation::Step, &self.outputs, self.message(place));
         call.record = [layer, round, self.claim(place), 1];
         call
+    }
+
+    pub fn depth(&self) -> usize {
+        self.exponents.len() - 1
+    }
+
+    /// The coins that come before any message.
+    pub fn first_coins(&self) -> &[u32] {
+        &self.coins[..self.exponents[0] as usize]
+    }
+
+    /// The coins of the messages.
+    pub fn message_coins(&self) -> &[u32] {
+        &self.coins[self.exponents[0] as usize..]
     }
 
     pub fn message(&self, place: usize) -> &[u32] {
@@ -104,9 +123,14 @@ impl Instance {
     /// The honest claim before the message at a place.
     pub fn claim(&self, place: usize) -> u32 {
         match place.checked_sub(1) {
-            None => self.output,
-            Some(before) => value(self.prime, self.message(before), self.coins[before]),
+            None => self.first_claim(&self.outputs),
+            Some(before) => value(self.prime, self.message(before), self.message_coins()[before]),
         }
+    }
+
+    /// The claim before any message, where these outputs are claimed.
+    pub fn first_claim(&self, outputs: &[u32]) -> u32 {
+        extension(self.prime, outputs, self.first_coins())
     }
 
     /// The buffer words that a call on these lists writes.
@@ -114,16 +138,21 @@ impl Instance {
         match call.operation {
             Operation::Evaluate => value_count(&self.circuit),
             Operation::Prove => self.message_words(),
-            Operation::ProveOne => self.places[call.coins().len()].length,
+            Operation::ProveOne => self.next_message(call.coins()).len(),
             _ => 0,
         }
+    }
+
+    /// The honest message that follows a prefix of the coins.
+    pub fn next_message(&self, prefix: &[u32]) -> &[u32] {
+        self.message(prefix.len() - self.first_coins().len())
     }
 
     pub fn message_words(&self) -> usize {
         self.places.iter().map(|place| place.length).sum()
     }
 
-    /// The gates of all layers, the output's first.
+    /// The gates of all layers, the outputs' first.
     pub fn gates(&self) -> &[[u32; 3]] {
         self.circuit[self.gate_start(0)..].as_chunks().0
     }
@@ -135,21 +164,24 @@ impl Instance {
 
     /// The width of the layer that the gate's wires lead to.
     pub fn next_width(&self, gate: usize) -> usize {
-        let mut passed = 1;
-        for &k in &self.exponents {
+        let mut passed = 0;
+        for layers in self.exponents.windows(2) {
+            passed += 1 << layers[0];
             if gate < passed {
-                return 1 << k;
+                return 1 << layers[1];
             }
-            passed += 1 << k;
         }
         unreachable!("the gate is not in the circuit")
     }
 
     /// What an accepted transcript of this instance has met.
     pub fn features(&self) -> Vec<Feature> {
-        let mut features = vec![Feature::Depth(self.prime, self.exponents.len() as u32)];
+        let mut features = vec![
+            Feature::Depth(self.prime, self.depth() as u32),
+            Feature::OutputExponent(self.prime, self.exponents[0]),
+        ];
         features.extend(self.gates().iter().map(|&[kind, left, right]| Feature::Accepted(kind, left.cmp(&right))));
-        features.extend(self.exponents.iter().map(|&k| Feature::Exponent(self.prime, k)));
+        features.extend(self.exponents[1..].iter().map(|&k| Feature::Exponent(self.prime, k)));
         if self.circuit.len() == MAX_CIRCUIT_WORDS {
             features.push(Feature::LargestCircuit(self.prime));
         }
@@ -164,20 +196,21 @@ fn draw_exponents(draw: &mut Draw, size: Size) -> Vec<u32> {
         Size::Deep => (1 + draw.below(MAX_DEPTH), 1),
         Size::Wide => (1 + draw.below(2), MAX_EXPONENT),
         Size::Any => (1 + draw.below(MAX_DEPTH), MAX_EXPONENT),
-        Size::Largest => return vec![MAX_EXPONENT as u32; MAX_DEPTH],
+        Size::Largest => return [&[MAX_OUTPUT_EXPONENT as u32][..], &[MAX_EXPONENT as u32; MAX_DEPTH]].concat(),
     };
-    (0..depth).map(|_| draw.below(most + 1) as u32).collect()
+    // A single output more often than not.
+    let output_exponent = if draw.one_in(2) { 0 } else { draw.below(MAX_OUTPUT_EXPONENT + 1) };
+    let others = (0..depth).map(|_| draw.below(most + 1));
+    iter::once(output_exponent).chain(others).map(|k| k as u32).collect()
 }
 
 fn draw_circuit(draw: &mut Draw, prime: u32, exponents: &[u32]) -> Vec<u32> {
-    let mut words = vec![prime, exponents.len() as u32];
+    let mut words = vec![prime, exponents.len() as u32 - 1];
     words.extend(exponents);
-    let mut width = 1;
-    for next in exponents.iter().map(|&k| 1 << k) {
-        for _ in 0..width {
-            words.extend(draw_gate(draw, next));
+    for layers in exponents.windows(2) {
+        for _ in 0..1 << layers[0] {
+            words.extend(draw_gate(draw, 1 << layers[1]));
         }
-        width = next;
     }
     words
 }
@@ -202,7 +235,7 @@ fn draw_coins(draw: &mut Draw, prime: u32, count: usize) -> Vec<u32> {
 fn places(exponents: &[u32]) -> Vec<Place> {
     let mut places = Vec::new();
     let mut start = 0;
-    for (layer, &k) in (1..).zip(exponents) {
+    for (layer, &k) in (1..).zip(&exponents[1..]) {
         for round in 0..=2 * k {
             let line = round == 2 * k;
             let length = if line { k as usize + 1 } else { 3 };

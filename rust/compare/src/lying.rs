@@ -1,7 +1,7 @@
 //! A lying prover: it keeps every comparison right for as long as it can and hopes for luck with the coins.
 
 use crate::arena::Arena;
-use crate::call::{Call, List, Operation};
+use crate::call::{List, Operation};
 use crate::instance::Instance;
 use crate::outcome::{of_plain, Answer};
 use crate::residues::{add, ends_sum, mul, sub, value};
@@ -13,30 +13,40 @@ const TRIES: usize = 40;
 
 /// A whole transcript of lies, checked and sometimes stepped through. No sum round can tell that it lies.
 pub fn transcript(arena: &mut Arena, instance: &Instance) {
-    let (kind, output) = if arena.draw.one_in(4) {
-        (Kind::FalseMessages, instance.output)
-    } else {
-        (Kind::FalseOutput, arena.draw.other_residue(instance.prime, instance.output))
-    };
-    let messages = lies(arena, instance, output);
-    let mut check = Call::new(Operation::Check, &instance.circuit, &instance.input, &instance.coins, &messages);
-    check.output = output;
+    let mut outputs = instance.outputs.clone();
+    let false_word = (!arena.draw.one_in(4)).then(|| arena.draw.below(outputs.len()));
+    if let Some(index) = false_word {
+        outputs[index] = arena.draw.other_residue(instance.prime, outputs[index]);
+    }
+    let kind = if false_word.is_some() { Kind::FalseOutput } else { Kind::FalseMessages };
+    let messages = lies(arena, instance, &outputs);
+    let check = instance.claim_call(Operation::Check, &outputs, &messages);
     let outcome = arena.compare(kind, &check);
-    match outcome.answer {
-        Answer::Accepted if kind == Kind::FalseOutput => {
-            arena.tally.features.insert(Feature::FalseOutputAccepted);
-        }
-        Answer::Accepted | Answer::Refused(17 | 18) => {}
-        _ => arena.fail("a transcript whose sums are right is refused otherwise", kind, &check, &outcome),
+    if !matches!(outcome.answer, Answer::Accepted | Answer::Refused(17 | 18)) {
+        arena.fail("a transcript whose sums are right is refused otherwise", kind, &check, &outcome);
+    }
+    if let Some(index) = false_word {
+        let hidden = instance.first_claim(&outputs) == instance.claim(0);
+        arena.tally.features.extend(feature(instance.prime, index, hidden, outcome.answer));
     }
     if arena.draw.one_in(3) {
-        session(arena, kind, instance, output, &messages);
+        session(arena, kind, instance, &outputs, &messages);
     }
 }
 
-fn lies(arena: &mut Arena, instance: &Instance, output: u32) -> Vec<u32> {
+/// What a list with one false word has met. It is hidden where the first claim is nevertheless the true one.
+fn feature(prime: u32, index: usize, hidden: bool, answer: Answer) -> Option<Feature> {
+    match (hidden, answer) {
+        (true, Answer::Accepted) => Some(Feature::HiddenOutputAccepted(prime)),
+        (false, Answer::Accepted) => Some(Feature::FalseOutputAccepted),
+        (false, _) => Some(Feature::FalseOutputRefused(index)),
+        (true, _) => None,
+    }
+}
+
+fn lies(arena: &mut Arena, instance: &Instance, outputs: &[u32]) -> Vec<u32> {
     let prime = instance.prime;
-    let mut claim = output;
+    let mut claim = instance.first_claim(outputs);
     let mut messages = Vec::new();
     for (index, place) in instance.places.iter().enumerate() {
         let is_true = claim == instance.claim(index);
@@ -48,7 +58,7 @@ fn lies(arena: &mut Arena, instance: &Instance, output: u32) -> Vec<u32> {
         } else if !place.line && (!is_true || arena.draw.one_in(6)) {
             balance(arena, prime, claim, &mut message);
         }
-        claim = value(prime, &message, instance.coins[index]);
+        claim = value(prime, &message, instance.message_coins()[index]);
         messages.extend(message);
     }
     messages

@@ -17,6 +17,7 @@ mod outcome;
 mod pairs;
 mod records;
 mod residues;
+mod row;
 mod tally;
 mod unit;
 mod valid;

@@ -8,8 +8,8 @@ pub fn order(operation: Operation) -> &'static [u32] {
         Operation::Load => &[1, 2, 3, 4, 5, 6, 7],
         Operation::Evaluate => &[1, 2, 3, 4, 5, 6, 7, 8, 9, 10],
         Operation::Prove | Operation::ProveOne => &[1, 2, 3, 4, 5, 6, 7, 8, 9, 11, 12, 10],
-        Operation::Check => &[1, 2, 3, 4, 5, 6, 7, 8, 9, 13, 11, 12, 14, 15, 16, 17, 18],
-        Operation::Open => &[1, 2, 3, 4, 5, 6, 7, 8, 9, 13, 11, 12],
+        Operation::Check => &[1, 2, 3, 4, 5, 6, 7, 8, 9, 21, 13, 11, 12, 14, 15, 16, 17, 18],
+        Operation::Open => &[1, 2, 3, 4, 5, 6, 7, 8, 9, 21, 13, 11, 12],
         Operation::Step => &[1, 2, 3, 4, 5, 6, 7, 8, 9, 11, 12, 19, 14, 15, 16, 17, 18],
         Operation::Read => &[20, 10],
     }
@@ -45,8 +45,8 @@ pub fn pairs(operation: Operation) -> Vec<(u32, u32)> {
 
 fn possible(operation: Operation, pair: (u32, u32)) -> bool {
     match pair {
-        // A list of fewer than 2 words has no depth, no exponents and no gates that could be wrong.
-        (1, 3..=7) => false,
+        // A list of fewer than 3 words has no exponents and no gates that could be wrong.
+        (1, 4..=7) => false,
         // A step's one message is either a sum round or a line, and the input is compared after a line only.
         (16, 17 | 18) => operation != Operation::Step,
         _ => true,

@@ -1,15 +1,17 @@
 //! What a call answers and leaves behind, on either side.
 
 use crate::call::{Call, Operation};
+use crate::residues::extension;
+use crate::row::Row;
 
 #[derive(Clone, Copy, Debug, PartialEq, Eq)]
 pub enum Answer {
     Legal,
-    Value(u32),
-    Proved(u32, usize),
+    Outputs(Row),
+    Proved(Row, usize),
     Message(usize),
     Accepted,
-    Opened,
+    Opened(Row),
     GoOn(u32),
     Counts([u32; 4]),
     Refused(u32),
@@ -36,7 +38,7 @@ impl Outcome {
     /// Whether all words but those that the answer speaks of are as they were lent.
     pub fn rest_is_untouched(&self, call: &Call) -> bool {
         let written = match self.answer {
-            Answer::Value(_) => value_count(call.circuit()),
+            Answer::Outputs(_) => value_count(call.circuit()),
             Answer::Proved(_, words) | Answer::Message(words) => words,
             Answer::Counts(counts) => counts.iter().map(|&count| count as usize).sum(),
             _ => 0,
@@ -45,14 +47,27 @@ impl Outcome {
         (0..GUARD).all(untouched) && (GUARD + written..self.guarded.len()).all(untouched)
     }
 
+    /// Whether the outputs are as many as the circuit says, and the first of all values, or the coins of an opening
+    /// those that come before any message.
+    pub fn row_fits(&self, call: &Call) -> bool {
+        match self.answer {
+            Answer::Outputs(outputs) => outputs.list() == self.front(1 << output_exponent(call.circuit())),
+            Answer::Proved(outputs, _) => outputs.list().len() == 1 << output_exponent(call.circuit()),
+            Answer::Opened(coins) => *coins.list() == call.coins()[..output_exponent(call.circuit())],
+            _ => true,
+        }
+    }
+
     /// Whether the record is the one that goes with the answer. Where a step goes on, its claim is left to the comparison.
     pub fn record_fits(&self, call: &Call) -> bool {
         let [layer, round, claim, _] = call.record;
         let expected = match (call.operation, self.answer) {
-            (Operation::Open, Answer::Opened) => [1, 0, call.output, 1],
+            (Operation::Open, Answer::Opened(coins)) => {
+                [1, 0, extension(call.circuit()[0], call.outputs(), coins.list()), 1]
+            }
             (Operation::Step, Answer::Accepted | Answer::Refused(14..=18)) => [layer, round, claim, 0],
             (Operation::Step, Answer::GoOn(_)) => {
-                let k = call.circuit()[1 + layer as usize];
+                let k = call.circuit()[2 + layer as usize];
                 let (layer, round) = if round == 2 * k { (layer + 1, 0) } else { (layer, round + 1) };
                 [layer, round, self.record[2], 1]
             }
@@ -64,7 +79,12 @@ impl Outcome {
 
 /// The number of gate and input words of a legal circuit.
 pub fn value_count(circuit: &[u32]) -> usize {
-    1 + circuit[2..2 + circuit[1] as usize].iter().map(|&k| 1 << k).sum::<usize>()
+    circuit[2..3 + circuit[1] as usize].iter().map(|&k| 1 << k).sum()
+}
+
+/// The exponent of a legal circuit's outputs, which is the number of coins before any message.
+fn output_exponent(circuit: &[u32]) -> usize {
+    circuit[2] as usize
 }
 
 /// What a word of a buffer or of its guard holds before the call.
@@ -88,15 +108,19 @@ pub fn of_plain(call: &Call) -> Outcome {
     let mut record = call.record;
     let answer = match call.operation {
         Operation::Load => refused(plain::load(circuit), |()| Answer::Legal),
-        Operation::Evaluate => refused(plain::evaluate(circuit, input, buffer), Answer::Value),
-        Operation::Prove => {
-            refused(plain::prove(circuit, input, coins, buffer), |(output, words)| Answer::Proved(output, words))
+        Operation::Evaluate => {
+            refused(plain::evaluate(circuit, input, buffer), |outputs| Answer::Outputs(Row::of(&outputs)))
         }
+        Operation::Prove => refused(plain::prove(circuit, input, coins, buffer), |(outputs, words)| {
+            Answer::Proved(Row::of(&outputs), words)
+        }),
         Operation::ProveOne => refused(plain::prove_one(circuit, input, coins, buffer), Answer::Message),
-        Operation::Check => refused(plain::check(circuit, input, call.output, coins, messages), |()| Answer::Accepted),
-        Operation::Open => refused(plain::open(circuit, input, call.output, coins), |session| {
+        Operation::Check => {
+            refused(plain::check(circuit, input, call.outputs(), coins, messages), |()| Answer::Accepted)
+        }
+        Operation::Open => refused(plain::open(circuit, input, call.outputs(), coins), |(first, session)| {
             record = plain_words(&session, 1);
-            Answer::Opened
+            Answer::Opened(Row::of(&first))
         }),
         Operation::Step => plain_step(call, &mut record),
         Operation::Read => refused(plain::read(&call.bytes, call.number, buffer), Answer::Counts),
@@ -129,17 +153,19 @@ pub fn of_proved(call: &Call) -> Outcome {
     let mut record = call.record;
     let answer = match call.operation {
         Operation::Load => numbered(kidlothe::load(circuit), |()| Answer::Legal),
-        Operation::Evaluate => numbered(kidlothe::evaluate(circuit, input, buffer), Answer::Value),
-        Operation::Prove => {
-            numbered(kidlothe::prove(circuit, input, coins, buffer), |proof| Answer::Proved(proof.output, proof.words))
+        Operation::Evaluate => {
+            numbered(kidlothe::evaluate(circuit, input, buffer), |outputs| Answer::Outputs(outputs.into()))
         }
+        Operation::Prove => numbered(kidlothe::prove(circuit, input, coins, buffer), |proof| {
+            Answer::Proved(proof.outputs.into(), proof.words)
+        }),
         Operation::ProveOne => numbered(kidlothe::prove_one(circuit, input, coins, buffer), Answer::Message),
         Operation::Check => {
-            numbered(kidlothe::check(circuit, input, call.output, coins, messages), |()| Answer::Accepted)
+            numbered(kidlothe::check(circuit, input, call.outputs(), coins, messages), |()| Answer::Accepted)
         }
-        Operation::Open => numbered(kidlothe::Session::open(circuit, input, call.output, coins), |session| {
-            record = session.words();
-            Answer::Opened
+        Operation::Open => numbered(kidlothe::Session::open(circuit, input, call.outputs(), coins), |opening| {
+            record = opening.session.words();
+            Answer::Opened(opening.coins.into())
         }),
         Operation::Step => proved_step(call, &mut record),
         Operation::Read => numbered(kidlothe::read(&call.bytes, call.number, buffer), Answer::Counts),

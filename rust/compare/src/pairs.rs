@@ -42,10 +42,22 @@ fn earns_its_number(arena: &mut Arena, instance: &Instance, base: &Call, fault: 
     if !earned && fault.is_certain() {
         arena.fail(&format!("the answer should be {}", fault.number), Kind::Refusal, &call, &outcome);
     }
-    if earned && fault.number == 18 && instance.input.len() == 1 {
-        arena.tally.features.insert(Feature::SingleInputRefused);
+    if earned {
+        arena.tally.features.extend(feature(instance, &call, fault.number));
     }
     earned
+}
+
+/// What the refusal has met.
+fn feature(instance: &Instance, call: &Call, number: u32) -> Option<Feature> {
+    let first = instance.first_coins().len();
+    match number {
+        11 if call.operation == Operation::ProveOne && call.coins().len() + 1 == first => {
+            Some(Feature::ShortPrefixRefused(first))
+        }
+        18 if instance.input.len() == 1 => Some(Feature::SingleInputRefused),
+        _ => None,
+    }
 }
 
 fn both(arena: &mut Arena, mut call: Call, first: &Fault, second: &Fault) {

@@ -22,10 +22,10 @@ pub fn any(arena: &mut Arena, instance: &Instance) {
 /// Figures in and out of range, each drawn by itself.
 fn forged(draw: &mut Draw, instance: &Instance, call: &mut Call) {
     let prime = instance.prime;
-    let depth = instance.exponents.len() as u32;
+    let depth = instance.depth() as u32;
     let (inside, any) = (1 + draw.below(depth as usize) as u32, draw.word());
     let layer = draw.pick(&[0, depth, depth + 1, inside, inside, inside, any, u32::MAX]);
-    let k = instance.exponents[layer.clamp(1, depth) as usize - 1];
+    let k = instance.exponents[layer.clamp(1, depth) as usize];
     let round = draw.below(2 * k as usize + 1) as u32;
     let [_, _, honest, _] = call.record;
     let (any, residue) = (draw.word(), draw.residue(prime));

@@ -77,16 +77,24 @@ impl Class {
 pub enum Feature {
     /// An accepted transcript, over this prime, of a circuit so deep.
     Depth(u32, u32),
-    /// An accepted transcript, over this prime, of a circuit with a layer of this exponent.
+    /// An accepted transcript, over this prime, of a circuit with a layer of this exponent below its outputs.
     Exponent(u32, u32),
+    /// An accepted transcript, over this prime, of a circuit whose outputs have this exponent.
+    OutputExponent(u32, u32),
     /// An accepted transcript of the largest circuit over this prime.
     LargestCircuit(u32),
     /// An accepted transcript of a circuit with a gate of this kind, its left wire so beside its right one.
     Accepted(u32, Ordering),
     /// A gate of this kind put in another's place, its wires so. All unknown kinds count as one.
     Gate(u32, Ordering),
-    /// A false output that was accepted by luck.
+    /// A false output that was accepted by luck with a message's coin.
     FalseOutputAccepted,
+    /// A false output, over this prime, that was accepted since the coins before any message gave it no weight.
+    HiddenOutputAccepted(u32),
+    /// A false output of this index that was refused.
+    FalseOutputRefused(usize),
+    /// An 11 of a prefix that lacks the last of this many coins before any message.
+    ShortPrefixRefused(usize),
     /// An 18 of a circuit with one input word.
     SingleInputRefused,
 }

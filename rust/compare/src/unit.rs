@@ -39,7 +39,7 @@ fn one_instance(arena: &mut Arena, size: Size) {
     // Work on wide circuits takes long, so they get fewer inputs each.
     let share = if matches!(size, Size::Wide | Size::Any | Size::Largest) { 4 } else { 1 };
     valid::each_operation(arena, &instance);
-    valid::session(arena, Kind::Session, &instance, instance.output, &instance.messages);
+    valid::session(arena, Kind::Session, &instance, &instance.outputs, &instance.messages);
     for _ in 0..4 / share {
         lying::transcript(arena, &instance);
         damage::same_remainder(arena, &instance);

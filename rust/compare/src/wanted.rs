@@ -5,7 +5,7 @@ use crate::gates::UNKNOWN_KIND;
 use crate::instance::PRIMES;
 use crate::order::{order, pairs};
 use crate::tally::{Class, Feature, Kind, Tally};
-use kidlothe::{MAX_DEPTH, MAX_EXPONENT};
+use kidlothe::{MAX_DEPTH, MAX_EXPONENT, MAX_OUTPUTS, MAX_OUTPUT_EXPONENT};
 use std::cmp::Ordering::{Equal, Greater, Less};
 
 /// The kinds of input that run through a whole transcript.
@@ -70,13 +70,16 @@ fn features() -> Vec<Feature> {
         features.extend([Less, Equal].map(|order| Feature::Accepted(kind, order)));
     }
     features.push(Feature::Accepted(3, Greater));
+    features.extend((0..MAX_OUTPUTS).map(Feature::FalseOutputRefused));
+    features.extend((1..=MAX_OUTPUT_EXPONENT).map(Feature::ShortPrefixRefused));
     for kind in 0..=UNKNOWN_KIND {
         features.extend([Less, Equal, Greater].map(|order| Feature::Gate(kind, order)));
     }
     for prime in PRIMES {
-        features.push(Feature::LargestCircuit(prime));
+        features.extend([Feature::LargestCircuit(prime), Feature::HiddenOutputAccepted(prime)]);
         features.extend((1..=MAX_DEPTH as u32).map(|depth| Feature::Depth(prime, depth)));
         features.extend((0..=MAX_EXPONENT as u32).map(|k| Feature::Exponent(prime, k)));
+        features.extend((0..=MAX_OUTPUT_EXPONENT as u32).map(|k| Feature::OutputExponent(prime, k)));
     }
     features
 }

@@ -1,9 +1,10 @@
 //! The library's functions as they are exported: c/kidlothe.h has their promises.
+use crate::ShortList;
 
 #[repr(C)]
 pub struct Evaluation {
     pub refusal: u32,
-    pub output: u32,
+    pub outputs: ShortList,
 }
 
 #[repr(C)]
@@ -15,7 +16,7 @@ pub struct Counts {
 #[repr(C)]
 pub struct Proof {
     pub refusal: u32,
-    pub output: u32,
+    pub outputs: ShortList,
     pub words: usize,
 }
 
@@ -23,6 +24,12 @@ pub struct Proof {
 pub struct Written {
     pub refusal: u32,
     pub words: usize,
+}
+
+#[repr(C)]
+pub struct Opening {
+    pub refusal: u32,
+    pub coins: ShortList,
 }
 
 #[repr(C)]
@@ -79,7 +86,8 @@ extern "C" {
         circuit_length: usize,
         input: *const u32,
         input_length: usize,
-        output: u32,
+        outputs: *const u32,
+        outputs_length: usize,
         coins: *const u32,
         coins_length: usize,
         messages: *const u32,
@@ -91,11 +99,12 @@ extern "C" {
         circuit_length: usize,
         input: *const u32,
         input_length: usize,
-        output: u32,
+        outputs: *const u32,
+        outputs_length: usize,
         coins: *const u32,
         coins_length: usize,
         session: *mut [u32; 4],
-    ) -> u32;
+    ) -> Opening;
 
     pub fn kidlothe_step(
         circuit: *const u32,

@@ -6,13 +6,14 @@ use std::fmt;
 #[derive(Clone, Copy, Debug, PartialEq, Eq, PartialOrd, Ord, Hash)]
 #[repr(u32)]
 pub enum Refusal {
-    /// The circuit has fewer than 2 words.
+    /// The circuit has fewer than 3 words.
     HeaderShort = 1,
     /// The modulus is not one of the listed primes.
     PrimeUnlisted = 2,
     /// The depth is not from 1 to [`MAX_DEPTH`](crate::MAX_DEPTH).
     DepthRange = 3,
-    /// The circuit ends before its exponents, or one is above [`MAX_EXPONENT`](crate::MAX_EXPONENT).
+    /// The circuit ends before its exponents, k_0 is above [`MAX_OUTPUT_EXPONENT`](crate::MAX_OUTPUT_EXPONENT), or
+    /// another is above [`MAX_EXPONENT`](crate::MAX_EXPONENT).
     ExponentRange = 4,
     /// The circuit has not as many words as its exponents call for.
     WordCount = 5,
@@ -30,7 +31,7 @@ pub enum Refusal {
     CoinCount = 11,
     /// A coin is not below p.
     CoinWord = 12,
-    /// The output is not below p.
+    /// An output is not below p.
     OutputWord = 13,
     /// A message, or all of them, has the wrong length.
     MessageLength = 14,
@@ -46,11 +47,13 @@ pub enum Refusal {
     RecordUnfit = 19,
     /// The bytes are not the arrays that were called for.
     BytesUnfit = 20,
+    /// The output list has not 2^k_0 words.
+    OutputCount = 21,
 }
 
 impl Refusal {
     /// All refusals, in the order of their numbers.
-    pub const ALL: [Refusal; 20] = [
+    pub const ALL: [Refusal; 21] = [
         Refusal::HeaderShort,
         Refusal::PrimeUnlisted,
         Refusal::DepthRange,
@@ -71,9 +74,10 @@ impl Refusal {
         Refusal::InputDiffers,
         Refusal::RecordUnfit,
         Refusal::BytesUnfit,
+        Refusal::OutputCount,
     ];
 
-    /// The specification's number of this refusal, from 1 to 20.
+    /// The specification's number of this refusal, from 1 to 21.
     pub fn number(self) -> u32 {
         self as u32
     }
@@ -87,10 +91,10 @@ impl Refusal {
     /// What is wrong, in words.
     pub fn words(self) -> &'static str {
         match self {
-            Refusal::HeaderShort => "the circuit has fewer than 2 words",
+            Refusal::HeaderShort => "the circuit has fewer than 3 words",
             Refusal::PrimeUnlisted => "the modulus is not a listed prime",
             Refusal::DepthRange => "the depth is not from 1 to 12",
-            Refusal::ExponentRange => "the circuit ends before its exponents, or one is above 8",
+            Refusal::ExponentRange => "the circuit ends before its exponents, k_0 is above 4, or another is above 8",
             Refusal::WordCount => "the circuit has not as many words as its exponents call for",
             Refusal::GateKind => "a gate's kind is unknown",
             Refusal::GateWires => "a gate's wires are outside the next layer, out of order where it does not subtract, or an empty gate has one",
@@ -99,7 +103,7 @@ impl Refusal {
             Refusal::BufferShort => "the buffer is too short",
             Refusal::CoinCount => "the number of coins is wrong",
             Refusal::CoinWord => "a coin is not below p",
-            Refusal::OutputWord => "the output is not below p",
+            Refusal::OutputWord => "an output is not below p",
             Refusal::MessageLength => "a message, or all of them, has the wrong length",
             Refusal::MessageWord => "a message word is not below p",
             Refusal::RoundDiffers => "a sum round does not add up to the standing claim",
@@ -107,6 +111,7 @@ impl Refusal {
             Refusal::InputDiffers => "the input does not give the last claim",
             Refusal::RecordUnfit => "the session has ended, or its record does not fit the circuit",
             Refusal::BytesUnfit => "the bytes are not the arrays that were called for",
+            Refusal::OutputCount => "the output list has not 2^k_0 words",
         }
     }
 }

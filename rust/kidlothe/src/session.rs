@@ -1,11 +1,20 @@
 //! A session: the check, one message at a time.
 use crate::foreign;
-use crate::{answered, Refusal};
+use crate::{answered, Refusal, ShortList};
+
+/// What an opening answers where it refuses nothing.
+#[derive(Clone, Copy, Debug, PartialEq, Eq)]
+pub struct Opening {
+    /// The session, which waits for its first message.
+    pub session: Session,
+    /// The first k_0 coins, which may now be told to the prover.
+    pub coins: ShortList,
+}
 
 /// What a step answers where it refuses nothing.
 #[derive(Clone, Copy, Debug, PartialEq, Eq)]
 pub enum Progress {
-    /// That was the last message: the output is accepted.
+    /// That was the last message: the outputs are accepted.
     Accepted,
     /// The session goes on. The coin of this message may now be told to the prover.
     GoOn(u32),
@@ -13,39 +22,41 @@ pub enum Progress {
 
 /// A session's record: where the next message stands, the standing claim, and whether the session is open.
 ///
-/// It has neither the output nor the lists nor the coins: keep these beside it, the same for every call, and release
-/// the output that the session was opened with.
+/// It has neither the outputs nor the lists nor the coins: keep these beside it, the same for every call, and release
+/// the outputs that the session was opened with.
 ///
 /// # Storing a session
 ///
-/// The record may be copied and stored by the verifier alone, and in this order: step, write the new
-/// [words](Session::words) away, then tell the answer with its coin. Never step from an older copy once the answer to it
-/// is out: the prover could send another message for the same round, with the coin known, or try again what was
-/// refused. The prover never holds or chooses the words: a forged record at the last line can be made to pass, whatever
-/// the output was.
+/// The record may be copied and stored by the verifier alone, and in this order: open or step, write the new
+/// [words](Session::words) away, an opening's outputs with them, then tell the answer with its coins. Never step from
+/// an older copy once the answer to it is out: the prover could send another message for the same round, with the coin
+/// known, or try again what was refused. Never open twice on the same coins: those handed out are known. The prover
+/// never holds or chooses the words: a forged record at the last line can be made to pass, whatever the outputs were.
 #[derive(Clone, Copy, Debug, PartialEq, Eq)]
 pub struct Session {
     words: [u32; 4],
 }
 
 impl Session {
-    /// Opens a session about an output. Refuses by the first of 1 to 9, 13, 11 and 12.
-    pub fn open(circuit: &[u32], input: &[u32], output: u32, coins: &[u32]) -> Result<Session, Refusal> {
+    /// Opens a session about these outputs, and hands out the coins that come before any message. Refuses by the first
+    /// of 1 to 9, 21, 13, 11 and 12.
+    pub fn open(circuit: &[u32], input: &[u32], outputs: &[u32], coins: &[u32]) -> Result<Opening, Refusal> {
         let mut words = [0; 4];
         // SAFETY: the lists are borrowed for the call, and `words` is a local of four words that overlaps none of them.
-        let number = unsafe {
+        let answer = unsafe {
             foreign::kidlothe_open(
                 circuit.as_ptr(),
                 circuit.len(),
                 input.as_ptr(),
                 input.len(),
-                output,
+                outputs.as_ptr(),
+                outputs.len(),
                 coins.as_ptr(),
                 coins.len(),
                 &mut words,
             )
         };
-        answered(number, Session { words })
+        answered(answer.refusal, Opening { session: Session { words }, coins: answer.coins })
     }
 
     /// Judges the next message. Every call takes the circuit, input and coins with which the session was opened.
