@@ -1,12 +1,13 @@
 -- The list of all coin lists, and the laws of counting over it.
 -- Assumes nothing.
 use Prim.Native.Nat.{ℕ, zero, suc, ◌+◌, ◌*◌, ◌^◌, ◌≤◌, ◌<◌, zero-le}
-use mathlib.Core.Path.{◌≡◌, refl, sym, ap, ◌∙◌}
+use mathlib.Core.Path.{◌≡◌, refl, sym, ap, ap₂, ◌∙◌}
 use mathlib.Core.Bool.{Bool, true, false, ◌&&◌}
 use mathlib.Core.List.{List, [], ◌∷◌, ◌++◌, map}
 use native.Mathlib.Nat.{le_trans, le_of_eq, pow-zero, pow-succ', suc_inj, zero-add, suc-add, add-zero, one-mul}
 use native.Mathlib.Omega.{arith}
 use lib.Dec.{eqb}
+use borrow.Author.Tests.{eq-eqb}
 use Rattle.lists.specs.Each.{All}
 use Rattle.lists.specs.Count.{sum, one_if, count, range}
 use Rattle.lists.proofs.Each.{all_weaken, all_map, all_flat_map}
@@ -67,6 +68,11 @@ begins p n c cs d h = go (eqb c d)
     go : (b : Bool) → count (λ ds. b && same cs ds) (coin_lists p n) ≡ one_if b
     go true = h
     go false = count_none (coin_lists p n)
+
+pub same_refl : (cs : List ℕ) → same cs cs ≡ true
+unfolding same
+same_refl [] = refl
+same_refl (c ∷ cs) = ap₂ (λ (a b : Bool). a && b) (eq-eqb c c refl) (same_refl cs)
 
 pub each_once : EachOnce
 unfolding same

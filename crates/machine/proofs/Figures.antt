@@ -1,8 +1,8 @@
--- A record's figures stay words: an opening's are 1, 0 and the output; a step leaves them, or goes on to the next round of a small circuit with a
+-- A record's figures stay words: an opening's are 1, 0 and the first claim, a residue; a step leaves them, or goes on to the next round of a small circuit with a
 -- residue as the claim.
 -- Assumes nothing.
 use Prim.Native.Nat.{ℕ, zero, suc}
-use mathlib.Core.Path.{◌≡◌, refl}
+use mathlib.Core.Path.{◌≡◌, refl, sym, subst}
 use mathlib.Core.Bool.{Bool, true, false, cond}
 use mathlib.Core.List.{List, [], ◌∷◌, ◌++◌}
 use native.Mathlib.Omega.{arith}
@@ -15,11 +15,13 @@ use Rattle.circuit.specs.Legal.{all_below, lists_cause}
 use Rattle.circuit.proofs.Loading.{legal_lists}
 use Rattle.circuit.proofs.Sized.{exponent_small, layer_of}
 use Rattle.walk.specs.Session.{Record, at, ended, step_final, step_last, step_judge, step_open, step}
-use Rattle.protocol.specs.Start.{first_claim}
+use Rattle.protocol.specs.Start.{first_point}
 use Rattle.protocol.specs.Rounds.{Place, place, is_line, coins_before, place_after, AtRound}
 use Rattle.protocol.specs.Judge.{message_at, descent, input_agrees}
-use Rattle.protocol.specs.Session.{opened_at, record_fits, step_cause, step_after, step_answer}
-use Rattle.protocol.proofs.Truth.{positive}
+use Rattle.protocol.specs.Session.{opens, open_answer, record_fits, step_cause, step_after, step_answer}
+use Rattle.protocol.proofs.Truth.{positive, claim_below}
+use Rattle.protocol.proofs.Check.{opened}
+use Rattle.protocol.proofs.Opening.{opened_free, opened_given}
 use Rattle.session.proofs.Records.{fit}
 use Rattle.machine.specs.Words.{Word, Words}
 
@@ -33,9 +35,12 @@ pub small_prime : (c : List ℕ) → Words c → Word (prime_of c)
 small_prime [] w = omega arith
 small_prime (p ∷ c) w = w.0
 
-pub opened_figures : (c : List ℕ) (y : ℕ) (cs : List ℕ) → Word y → Figures (opened_at c y cs)
-unfolding first_claim
-opened_figures c y cs w = record { layer = omega arith; round = omega arith; claim = w }
+pub opened_figures : (c input ys cs us : List ℕ) (s : Record Place) → Words c → opens us s ≡ open_answer c input ys cs → Figures s
+opened_figures c input ys cs us s w e =
+    let legal = (opened c input ys cs (opened_free c input ys cs us s e)).given.lists in
+    let small = claim_below c input legal ys (first_point c cs) in
+    subst Figures (sym (opened_given c input ys cs us s e).1)
+    (record { layer = omega arith; round = omega arith; claim = omega (arith, small, small_prime c w) })
 
 -- THE NEXT ROUND of a legal circuit
 next_figures : (c : List ℕ) (r : Place) (n claim : ℕ) → AtRound c r n → Word claim → Figures (at (place_after c r) claim)

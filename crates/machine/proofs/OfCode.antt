@@ -9,16 +9,14 @@ use Rattle.refusal.specs.declared.Cause.{Cause}
 use Rattle.refusal.proofs.Order.{refused_by}
 use Rattle.walk.specs.Session.{refused, Record}
 use Rattle.protocol.specs.Rounds.{Place}
-use Rattle.protocol.specs.Session.{opened_at, open_answer}
-use Rattle.protocol.proofs.Opening.{opened_record}
-use Rattle.session.specs.Answers.{record_of, opening_of}
+use Rattle.short_list.specs.Short.{list_of}
+use Rattle.session.specs.Answers.{record_of, opening_from}
 use Rattle.session.specs.declared.Session.{Session}
-use Rattle.machine.specs.Words.{Word}
 use Rattle.machine.specs.Code.{Code, WordSession, KeepsContracts, outcome_answer, opening_begun, of_code}
 use Rattle.machine.specs.Exported.{number_answer}
 use Rattle.machine.specs.Theorems.{Demand3}
-use Rattle.machine.proofs.Figures.{Figures, opened_figures, step_figures}
-use Rattle.machine.proofs.Simulation.{begun_as, Stored, both, Simulates}
+use Rattle.machine.proofs.Figures.{Figures, step_figures}
+use Rattle.machine.proofs.Simulation.{begun_by, both, Simulates}
 use Rattle.machine.proofs.Holds.{holds}
 
 -- a cause has no number 0, so that accepted is told from refused by the number too
@@ -26,9 +24,14 @@ outcome_number : (x : Result ⊤ Cause) (n : ℕ) → cause_of x ≡ n → outco
 outcome_number (Ok x) n e = ap number_answer e
 outcome_number (Err cause) n e = refused_by number_answer refused (λ k. refl) cause n (sym e)
 
-opening_begun_lem : (x : Result Session Cause) → begun_as record_of (opening_begun x) ≡ opening_of x
-opening_begun_lem (Ok s) = refl
-opening_begun_lem (Err cause) = refl
+-- a record, as the code holds it
+written : Record Place → Session
+written s = record { layer = s.round.layer; round = s.round.round; claim = s.claim; «open» = s.opened }
+
+opening_begun_lem : (x : Result Session Cause) (us : List ℕ) → opening_begun x us ≡ begun_by written (opening_from x us)
+unfolding written
+opening_begun_lem (Ok s) us = refl
+opening_begun_lem (Err cause) us = refl
 
 -- a session's figures are those of the record that it stands for
 session_words_lem : (s : Session) (r : Record Place) → record_of s ≡ r → Figures r → WordSession s
@@ -39,18 +42,17 @@ session_words_lem s r e f =
 session_figures : (s : Session) → WordSession s → Figures (record_of s)
 session_figures s w = record { layer = w.layer; round = w.round; claim = w.claim }
 
-opening_stored : (c input : List ℕ) (y : ℕ) (cs : List ℕ) → Word y → (x : Result Session Cause) → opening_of x ≡ open_answer c input y cs → Stored WordSession (opening_begun x)
-opening_stored c input y cs wy (Ok s) e =
-    session_words_lem s (opened_at c y cs) (opened_record c input y cs (record_of s) e) (opened_figures c y cs wy)
-opening_stored c input y cs wy (Err cause) e = tt
-
 module _ (F : Code) (keeps : KeepsContracts F) where
   simulates : Simulates (of_code F) WordSession record_of
-  unfolding of_code
+  unfolding of_code written
   simulates = record {
-    check = λ c input y cs ms w wy wm. outcome_number (F.check c input y cs ms) _ (keeps.checks c input y cs ms w wy wm);
-    begin = λ c input y cs w wy. opening_begun_lem (F.begin c input y cs) ∙ keeps.opens c input y cs w wy;
-    begin_stored = λ c input y cs w wy. opening_stored c input y cs wy (F.begin c input y cs) (keeps.opens c input y cs w wy);
+    check = λ c input ys cs ms w wy wm. outcome_number (F.check c input ys cs ms) _ (keeps.checks c input ys cs ms w wy wm);
+    write = written;
+    read_back = λ s. refl;
+    stored = λ s f. session_words_lem (written s) s refl f;
+    begin = λ c input ys cs w wy.
+        let r = F.begin c input ys cs in
+        opening_begun_lem r.session (list_of r.coins) ∙ ap (begun_by written) (keeps.opens c input ys cs w wy).answer;
     step = λ c input cs s m w ws wm. (keeps.steps c input cs s m w ws wm).answer;
     step_record = λ c input cs s m w ws wm. (keeps.steps c input cs s m w ws wm).after;
     step_stored = λ c input cs s m w ws wm.

@@ -2,7 +2,7 @@
 -- its lists of calls give the definitions' answers.
 -- Assumes nothing.
 use Prim.Native.Nat.{ℕ, zero, suc}
-use mathlib.Core.Path.{◌≡◌, refl, ap, ap₂, ◌∙◌}
+use mathlib.Core.Path.{◌≡◌, refl, sym, ap, ap₂, ◌∙◌}
 use mathlib.Core.Bool.{true, false≢true}
 use mathlib.Core.List.{List, [], ◌∷◌, ◌++◌}
 use Rattle.lists.specs.Each.{All}
@@ -23,15 +23,12 @@ use Rattle.machine.specs.Words.{Word, Words, WordRule, WordLists}
 use Rattle.machine.specs.Machine.{Begun, begun, declined, is_begun, Machine, stepping, continued, answers, whole_accepts, session_accepts, asking}
 use Rattle.machine.specs.Exported.{number_answer}
 use Rattle.machine.specs.Theorems.{OpenedOn}
+use Rattle.machine.proofs.Figures.{Figures, opened_figures}
 
--- an opening as the definitions have it, and the words of the session that it gives
-abbrev pub begun_as : {S : Type 0} → (S → Record Place) → Begun S → OpenAnswer
-begun_as read (begun s) = opens (read s)
-begun_as read (declined cause) = refuses cause
-
-abbrev pub Stored : {S : Type 0} → (S → Type 0) → Begun S → Type 0
-Stored Store (begun s) = Store s
-Stored Store (declined cause) = Unit {0}
+-- a machine's opening, from the definitions', where a record is written down as a session
+abbrev pub begun_by : {S : Type 0} → (Record Place → S) → OpenAnswer → Begun S
+begun_by write (opens us s) = begun us (write s)
+begun_by write (refuses cause) = declined cause
 
 abbrev pair : {A B : Type 0} → A → B → A × B
 pair a b = (a, b)
@@ -40,10 +37,12 @@ pub both : {A B : Type 0} {a a' : A} {b b' : B} → a ≡ a' → b ≡ b' → pa
 both e f = ap₂ pair e f
 
 pub record Simulates {S : Type 0} (M : Machine S) (Store : S → Type 0) (read : S → Record Place) : Type 0 where
-  pub check : (c input : List ℕ) (y : ℕ) (cs ms : List ℕ) → WordLists c input cs → Word y → Words ms
-      → M.check c input y cs ms ≡ number_answer (check_answer c input y cs ms)
-  pub begin : (c input : List ℕ) (y : ℕ) (cs : List ℕ) → WordLists c input cs → Word y → begun_as read (M.begin c input y cs) ≡ open_answer c input y cs
-  pub begin_stored : (c input : List ℕ) (y : ℕ) (cs : List ℕ) → WordLists c input cs → Word y → Stored Store (M.begin c input y cs)
+  pub check : (c input ys cs ms : List ℕ) → WordLists c input cs → Words ys → Words ms
+      → M.check c input ys cs ms ≡ number_answer (check_answer c input ys cs ms)
+  pub write : Record Place → S
+  pub read_back : (s : Record Place) → read (write s) ≡ s
+  pub stored : (s : Record Place) → Figures s → Store (write s)
+  pub begin : (c input ys cs : List ℕ) → WordLists c input cs → Words ys → M.begin c input ys cs ≡ begun_by write (open_answer c input ys cs)
   pub step : (c input cs : List ℕ) (s : S) (m : List ℕ) → WordLists c input cs → Store s → Words m
       → (M.step c input cs s m).0 ≡ (step_answer c input cs (read s) m).0
   pub step_record : (c input cs : List ℕ) (s : S) (m : List ℕ) → WordLists c input cs → Store s → Words m
@@ -74,35 +73,38 @@ module _ {S : Type 0} (M : Machine S) (Store : S → Type 0) (read : S → Recor
       (stepping_is c input cs w (M.step c input cs s m).1 (sim.step_stored c input cs s m w st h.0) ms h.1
       ∙ ap (λ (r : Record Place). steps c input cs r ms) (sim.step_record c input cs s m w st h.0))
 
-  pub answers_are : (c input : List ℕ) (y : ℕ) (cs : List ℕ) → WordLists c input cs → Word y → (ms : List (List ℕ)) → All Words ms
-      → answers M c input y cs ms ≡ session_on c input y cs ms
-  answers_are c input y cs w wy ms h = go (M.begin c input y cs) (sim.begin c input y cs w wy) (sim.begin_stored c input y cs w wy)
+  pub answers_are : (c input ys cs : List ℕ) → WordLists c input cs → Words ys → (ms : List (List ℕ)) → All Words ms
+      → answers M c input ys cs ms ≡ session_on c input ys cs ms
+  answers_are c input ys cs w wy ms h =
+      ap (λ (b : Begun S). continued M c input cs b ms) (sim.begin c input ys cs w wy) ∙ go (open_answer c input ys cs) refl
     where
-      go : (b : Begun S) → begun_as read b ≡ open_answer c input y cs → Stored Store b → continued M c input cs b ms ≡ session_on c input y cs ms
-      go (begun s) e st = stepping_is c input cs w s st ms h ∙ ap (λ (a : OpenAnswer). steps_from c input cs a ms) e
-      go (declined cause) e st = ap (λ (a : OpenAnswer). steps_from c input cs a ms) e
+      go : (a : OpenAnswer) → a ≡ open_answer c input ys cs → continued M c input cs (begun_by sim.write a) ms ≡ steps_from c input cs a ms
+      go (opens us s) e =
+          stepping_is c input cs w (sim.write s) (sim.stored s (opened_figures c input ys cs us s w.circuit e)) ms h
+          ∙ ap (λ (r : Record Place). steps c input cs r ms) (sim.read_back s)
+      go (refuses cause) e = refl
 
   -- an opening that gives a session refuses nothing
-  pub opened_cause : (c input : List ℕ) (y : ℕ) (cs : List ℕ) → OpenedOn M c input y cs → open_cause c input y cs ≡ 0
-  opened_cause c input y cs o = go (M.begin c input y cs) (sim.begin c input y cs o.lists o.output) o.opened
+  pub opened_cause : (c input ys cs : List ℕ) → OpenedOn M c input ys cs → open_cause c input ys cs ≡ 0
+  opened_cause c input ys cs o = go (open_answer c input ys cs) refl (sym (ap is_begun (sim.begin c input ys cs o.lists o.outputs)) ∙ o.opened)
     where
-      go : (b : Begun S) → begun_as read b ≡ open_answer c input y cs → is_begun b ≡ true → open_cause c input y cs ≡ 0
-      go (begun s) e t = opened_free c input y cs (read s) e
-      go (declined cause) e t = absurd (false≢true t)
+      go : (a : OpenAnswer) → a ≡ open_answer c input ys cs → is_begun (begun_by sim.write a) ≡ true → open_cause c input ys cs ≡ 0
+      go (opens us s) e t = opened_free c input ys cs us s e
+      go (refuses cause) e t = absurd (false≢true t)
 
   -- ACCEPTANCE
-  module _ (c input : List ℕ) (y : ℕ) (wy : Word y) (rule : Rule Place) (wr : WordRule rule) (cs : List ℕ) (w : WordLists c input cs) where
+  module _ (c input ys : List ℕ) (wy : Words ys) (rule : Rule Place) (wr : WordRule rule) (cs : List ℕ) (w : WordLists c input cs) where
     messages_words : All Words (messages_on c rule cs)
     messages_words = said_all Words rule wr (rounds c) (first_point c cs) (later_coins c cs)
 
-    pub whole_is : whole_accepts M c input y rule cs ≡ accept.whole_accepts c input y rule cs
+    pub whole_is : whole_accepts M c input ys rule cs ≡ accept.whole_accepts c input ys rule cs
     unfolding transcript
     whole_is =
-        ap is_accepted (sim.check c input y cs (transcript c rule cs) w wy (all_flatten Word (messages_on c rule cs) messages_words))
-        ∙ accepted_passes (check_answer c input y cs (transcript c rule cs))
+        ap is_accepted (sim.check c input ys cs (transcript c rule cs) w wy (all_flatten Word (messages_on c rule cs) messages_words))
+        ∙ accepted_passes (check_answer c input ys cs (transcript c rule cs))
 
-    pub session_is : session_accepts M c input y rule cs ≡ accept.session_accepts c input y rule cs
-    session_is = ap any_accepted (answers_are c input y cs w wy (messages_on c rule cs) messages_words)
+    pub session_is : session_accepts M c input ys rule cs ≡ accept.session_accepts c input ys rule cs
+    session_is = ap any_accepted (answers_are c input ys cs w wy (messages_on c rule cs) messages_words)
 
   -- PROVE, ASKED FOR ONE MESSAGE AFTER ANOTHER
   pub asking_is : (c input : List ℕ) → Words c → Words input → (buffer : List ℕ → List ℕ) → ((past : List ℕ) → Words (buffer past))

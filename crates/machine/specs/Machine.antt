@@ -1,28 +1,33 @@
 -- A machine: what can be asked for a check, an opening, a step and both forms of a proof. Its answers are told by their case, and S is whatever it
 -- keeps a session in. Then what lists of calls to it give.
 -- Assumes nothing.
-use Rattle.std.specs.Prelude.{ℕ, Bool, true, false, ◌&&◌, List, [], ◌∷◌, eqb, take}
-use Rattle.circuit.specs.Values.{value}
+use Rattle.std.specs.Prelude.{ℕ, Bool, true, false, ◌&&◌, List, [], ◌∷◌, take}
+use Rattle.counting.specs.Coins.{same}
+use Rattle.circuit.specs.Values.{outputs}
 use Rattle.walk.specs.Rule.{Rule}
 use Rattle.walk.specs.Session.{Answer, is_accepted, any_accepted}
 use Rattle.protocol.specs.Rounds.{Place}
 use Rattle.protocol.specs.Prove.{Proof, proved, refused, OneMessage, messages_on, transcript, message_in}
-use Rattle.protocol.specs.Theorems.{Acceptance}
+use Rattle.protocol.specs.Accept.{Acceptance}
 
--- an opening gives a session or refuses
+-- an opening hands out coins and gives a session, or refuses
 pub data Begun (S : Type 0) : Type 0 where
-  begun : S → Begun S
+  begun : List ℕ → S → Begun S
   declined : ℕ → Begun S
 
 abbrev pub is_begun : {S : Type 0} → Begun S → Bool
-is_begun (begun s) = true
+is_begun (begun us s) = true
 is_begun (declined cause) = false
+
+abbrev pub handed_out : {S : Type 0} → Begun S → List ℕ
+handed_out (begun us s) = us
+handed_out (declined cause) = []
 
 -- the arguments are a circuit, an input, then what the operation takes, in its order; the operations that write are given a buffer and give the
 -- buffer that they leave
 pub record Machine (S : Type 0) : Type 0 where
-  pub check : List ℕ → List ℕ → ℕ → List ℕ → List ℕ → Answer
-  pub begin : List ℕ → List ℕ → ℕ → List ℕ → Begun S
+  pub check : List ℕ → List ℕ → List ℕ → List ℕ → List ℕ → Answer
+  pub begin : List ℕ → List ℕ → List ℕ → List ℕ → Begun S
   pub step : List ℕ → List ℕ → List ℕ → S → List ℕ → Answer × S
   pub prove : List ℕ → List ℕ → List ℕ → List ℕ → Proof × List ℕ
   pub prove_one : List ℕ → List ℕ → List ℕ → List ℕ → OneMessage × List ℕ
@@ -34,22 +39,22 @@ module _ {S : Type 0} (M : Machine S) where
   stepping c input cs s (m ∷ ms) = (M.step c input cs s m).0 ∷ stepping c input cs (M.step c input cs s m).1 ms
 
   abbrev pub continued : List ℕ → List ℕ → List ℕ → Begun S → List (List ℕ) → List Answer
-  continued c input cs (begun s) ms = stepping c input cs s ms
+  continued c input cs (begun us s) ms = stepping c input cs s ms
   continued c input cs (declined cause) ms = []
 
-  abbrev pub answers : List ℕ → List ℕ → ℕ → List ℕ → List (List ℕ) → List Answer
-  answers c input y cs ms = continued c input cs (M.begin c input y cs) ms
+  abbrev pub answers : List ℕ → List ℕ → List ℕ → List ℕ → List (List ℕ) → List Answer
+  answers c input ys cs ms = continued c input cs (M.begin c input ys cs) ms
 
   -- ACCEPTANCE: "Check, given it and the rule's messages for it in the walk's order, answers accepted"; "one of its calls answers accepted"
   abbrev pub whole_accepts : Acceptance
-  whole_accepts c input y rule cs = is_accepted (M.check c input y cs (transcript c rule cs))
+  whole_accepts c input ys rule cs = is_accepted (M.check c input ys cs (transcript c rule cs))
 
   abbrev pub session_accepts : Acceptance
-  session_accepts c input y rule cs = any_accepted (answers c input y cs (messages_on c rule cs))
+  session_accepts c input ys rule cs = any_accepted (answers c input ys cs (messages_on c rule cs))
 
-  -- PROVE AGAINST CHECK: the output that it answers is the circuit's value, and with the words that it wrote it is accepted
+  -- PROVE AGAINST CHECK: the outputs that it answers are the circuit's, and with the words that it wrote they are accepted
   abbrev pub taken : List ℕ → List ℕ → List ℕ → Proof × List ℕ → Bool
-  taken c input cs (proved y n, after) = eqb y (value c input) && is_accepted (M.check c input y cs (take n after))
+  taken c input cs (proved ys n, after) = same ys (outputs c input) && is_accepted (M.check c input ys cs (take n after))
   taken c input cs (refused cause, after) = false
 
   abbrev pub proves_and_accepts : List ℕ → List ℕ → List ℕ → List ℕ → Bool
