@@ -78,7 +78,8 @@ input_count c = 2 ^ input_exponent c
 unfoldable pub value_count : List ℕ → ℕ
 value_count c = gate_count (output_exponent c) (exponents c) + input_count c
 
--- "Each message has one coin: n is the sum of 2k_i + 1", after the k_0 coins before any message. "The messages have 7k_i + 1 words a layer."
+-- "k_0 coins come before any message", and "each message has one coin: n is k_0 and the sum of 2k_i + 1 over the layers 1 to D. The messages have
+-- 7k_i + 1 words a layer."
 unfoldable pub coin_count : List ℕ → ℕ
 coin_count c = output_exponent c + sum (map (λ k. 2 * k + 1) (exponents c))
 

@@ -6,11 +6,10 @@ use Rattle.std.specs.Prelude.{ℕ, ◌+◌, ◌-◌, ◌*◌, ◌^◌}
 abbrev pub max_depth : ℕ
 max_depth = 12
 
--- "its width exponent k_i, from 0 to 8"
+-- "its width exponent k_i: k_0, from 0 to 4, and the others from 0 to 8"
 abbrev pub max_exponent : ℕ
 max_exponent = 8
 
--- "k_0, from 0 to 4"
 abbrev pub max_output_exponent : ℕ
 max_output_exponent = 4
 

@@ -36,7 +36,7 @@ WiresBelow =
     (c : List ℕ) → load_answer c ≡ 0 → (i : ℕ) → i < depth c
     → All (λ g. (g.left < 2 ^ exponent_at c (suc i)) × (g.right < 2 ^ exponent_at c (suc i))) (gates_at c i)
 
--- "The output becomes a list of 2^k_0 words", which are residues
+-- the outputs are "a list of 2^k_0 words", which are residues
 pub record OutputList (c ys : List ℕ) : Type 0 where
   pub size : length ys ≡ 2 ^ output_exponent c
   pub residues : All (λ y. y < prime_of c) ys

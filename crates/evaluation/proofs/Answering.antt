@@ -58,9 +58,10 @@ module _ (c input before : List ℕ) where
         let legal = (legal_lists c input e).circuit in
         let size : n ≡ 2 ^ output_exponent c = wide ∙ exponent_width c 0 (layer_of c legal 0 zero-le) in
         let inside = layer_room c input e 0 zero-le in
-        let over_size = length_over all before (omega (arith, all_size c input e, room)) in
-        (omega (arith, size, inside, over_size, all_size c input e, room),
-        take-append-le n all _ (omega (arith, size, inside)) ∙ ap (λ (k : ℕ). take k all) size ∙ output_part c input e)
+        let over_size = length_over all before (omega (arith, all_size c input e, room)) in (
+          omega (arith, size, inside, over_size, all_size c input e, room),
+          take-append-le n all _ (omega (arith, size, inside)) ∙ ap (λ (k : ℕ). take k all) size ∙ output_part c input e,
+        )
 
     pub left_values : (total count : ℕ) (values : List ℕ) → total ≡ value_count c → count ≡ width_of (exponent_at c 0)
         → AllValues c input values → WritesValues c input before (Ok count) (over (take total values) before)

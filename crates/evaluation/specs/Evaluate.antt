@@ -12,7 +12,7 @@ use Rattle.circuit.specs.Values.{layers, outputs}
 use Rattle.short_list.specs.Short.{short, list_of}
 use Rattle.evaluation.specs.declared.Evaluated.{Evaluated}
 
--- EVALUATE: "It refuses by 1 to 9, then 10 where the buffer is shorter than the values of this circuit. Otherwise it answers the" outputs; "the buffer
+-- EVALUATE: "It refuses by 1 to 9, then 10 where the buffer is shorter than the values of this circuit. Otherwise it answers the outputs; the buffer
 -- begins with the values of layers 0 to D in order, the rest unchanged."
 unfoldable pub evaluate_cause : List ℕ → List ℕ → List ℕ → ℕ
 evaluate_cause c input buffer = first (lists_cause c input) (need (leb (value_count c) (length buffer)) 10 0)

@@ -32,17 +32,17 @@ pub record AnyRule (c : List ℕ) (rule : Rule Place) : Type 0 where
   pub fits : FitsCircuit c rule
   pub words : WordRule rule
 
--- a list that is not the circuit's outputs: "A list is false if one word is", or of another length
+-- a list that is not the circuit's outputs: "a list is false if one word is, or if it has another length"
 pub record FalseOutputs (c input ys : List ℕ) : Type 0 where
   pub words : Words ys
   pub differs : ¬ (ys ≡ outputs c input)
 
--- COMPLETENESS: "the honest prover's messages for the true" outputs "are accepted on all of them"
+-- COMPLETENESS: "the honest prover's messages for the true outputs are accepted on all of them"
 abbrev pub Complete : Acceptance → Type 0
 Complete accepts = (c input : List ℕ) → Job c input → PassesAll c (accepts c input (outputs c input) (honest c input))
 
--- SOUNDNESS: whatever rule a false prover follows, a false list is accepted on at most (k_0 + 5 × K) × p^(n-1) of the p^n coin lists; and the sharp
--- bound
+-- SOUNDNESS: "Whatever rule a false prover follows, a false list of outputs is accepted on at most (k_0 + 5 × K) × p^(n-1) of the p^n coin lists";
+-- and the sharp bound
 abbrev pub Sound : Acceptance → Type 0
 Sound accepts =
     (c input : List ℕ) → Job c input → (ys : List ℕ) → FalseOutputs c input ys → (rule : Rule Place) → AnyRule c rule → PassesFew c (accepts c input ys rule)

@@ -206,8 +206,8 @@ module _ (c input : List ℕ) (legal : lists_cause c input ≡ 0) where
       record { long = listed.size; long' = own.size; small = listed.residues; small' = own.residues; differ = ne } in
       first_coins p (legal_prime c (loaded c input legal)) (output_exponent c) ys (outputs c input) (message_losses c) (accepts ys σ) apart
       (λ us v differ.
-          subst (Doomed p (message_losses c) Fails) (λ i cs. accepts_on ys σ us v.0 cs i)
-          (play_doomed (descent c) (input_agrees c input) p (loss_of c) Bad sound σ (rounds c) us (claim_at c ys us) (starts us (claim_at c ys us) v.0 differ)))
+      subst (Doomed p (message_losses c) Fails) (λ i cs. accepts_on ys σ us v.0 cs i)
+      (play_doomed (descent c) (input_agrees c input) p (loss_of c) Bad sound σ (rounds c) us (claim_at c ys us) (starts us (claim_at c ys us) v.0 differ)))
 
   pub bound_of : (test : List ℕ → Bool) → Doomed p (coin_losses c) Fails test
       → passing p (coin_count c) test ≤ (output_exponent c + 5 * exponent_sum c) * p ^ (coin_count c - 1)

@@ -68,8 +68,8 @@ one_check c input cs ms y one =
     let after : ℕ → ℕ = λ claim. need_coins c cs (need (eqb (length ms) (message_words c)) 14 (walk_from c input claim cs ms)) in
     ap (first (lists_cause c input)) (outputs_one c one y cs after)
     ∙ ap₂ (λ (us vs : List ℕ).
-        first (lists_cause c input) (need (ltb y (prime_of c)) 13 (need_coins c cs (need (eqb (length ms) (message_words c)) 14
-        (walk (descent c) (input_agrees c input) (rounds c) us y ms vs)))))
+    first (lists_cause c input) (need (ltb y (prime_of c)) 13 (need_coins c cs (need (eqb (length ms) (message_words c)) 14
+    (walk (descent c) (input_agrees c input) (rounds c) us y ms vs)))))
     (no_point c one cs) (ap (λ (k : ℕ). drop k cs) one)
 
 -- a refusal names no record

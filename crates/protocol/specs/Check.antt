@@ -1,4 +1,4 @@
--- Check, whole: "It refuses by 1 to 9", 21, 13, 11 and 12, "then 14 where the message words are not the exact total." Then comes the walk.
+-- Check, whole: "It refuses by 1 to 9, 21, 13, 11, 12, then 14 where the message words are not the exact total." Then comes the walk.
 -- Assumes nothing.
 use Rattle.std.specs.Prelude.{ℕ, ◌^◌, ◌≡◌, List, eqb, length}
 use Rattle.refusal.specs.Order.{need, first}
@@ -9,7 +9,7 @@ use Rattle.protocol.specs.Start.{first_point, later_coins, first_claim}
 use Rattle.protocol.specs.Rounds.{rounds}
 use Rattle.protocol.specs.Judge.{descent, input_agrees}
 
--- 21 "the output list hasn't 2^k_0 words", 13 for any of its words that is not below p, then the rest
+-- 21 "the output list has not 2^k_0 words", 13 "an output word is not below p", then the rest
 abbrev pub need_outputs : List ℕ → List ℕ → ℕ → ℕ
 need_outputs c ys rest = need (eqb (length ys) (2 ^ output_exponent c)) 21 (need (all_below (prime_of c) ys) 13 rest)
 

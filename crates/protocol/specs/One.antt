@@ -30,7 +30,7 @@ pub record StartsAtOutput (c cs : List ℕ) (y : ℕ) : Type 0 where
 abbrev pub OneStart : Type 0
 OneStart = (c cs : List ℕ) (y : ℕ) → output_exponent c ≡ 0 → StartsAtOutput c cs y
 
--- CHECK: "It refuses by 1 to 9, 13, 11, 12, then 14 where the message words are not the exact total."
+-- CHECK: "Check refuses by 1 to 9, 13, 11, 12, then 14 where the message words are not the exact total"
 abbrev pub OneCheck : Type 0
 OneCheck =
     (c input cs ms : List ℕ) (y : ℕ) → output_exponent c ≡ 0
@@ -41,7 +41,7 @@ OneCheck =
     (need (eqb (length ms) (message_words c)) 14
     (walk (descent c) (input_agrees c input) (rounds c) [] y ms cs))))
 
--- OPEN: "It refuses by 1 to 9, 13, 11, 12." It hands out no coin, and "The record has layer 1, round 0, the output as claim, and is open."
+-- OPEN: "Open by 1 to 9, 13, 11, 12". "with k_0 = 0 that is the output as claim, and no coin"
 abbrev pub OneOpen : Type 0
 OneOpen =
     (c input cs : List ℕ) (y : ℕ) → output_exponent c ≡ 0

@@ -35,7 +35,7 @@ messages_on c rule cs = said rule (rounds c) (first_point c cs) (later_coins c c
 unfoldable pub transcript : List ℕ → Rule Place → List ℕ → List ℕ
 transcript c rule cs = flatten (messages_on c rule cs)
 
--- Prove, whole: "It refuses by 1 to 9, 11, 12, then 10 where the buffer is shorter than all message words. Otherwise it answers the" outputs "and
+-- Prove, whole: "It refuses by 1 to 9, 11, 12, then 10 where the buffer is shorter than all message words. Otherwise it answers the outputs and
 -- the number of words written; each honest message is written directly after the one before it, the rest unchanged."
 pub data Proof : Type 0 where
   proved : List ℕ → ℕ → Proof
@@ -55,7 +55,7 @@ unfoldable pub prove_buffer : List ℕ → List ℕ → List ℕ → List ℕ �
 prove_buffer c input cs buffer =
     cond (eqb (prove_cause c input cs buffer) 0) (over (transcript c (honest c input) cs) buffer) buffer
 
--- Prove, one message: "It refuses by 1 to 9, by 11 where the prefix has n coins or more", or fewer than k_0, "by 12, then by 10 where the buffer is shorter than this
+-- Prove, one message: "It refuses by 1 to 9, by 11 where the prefix has n coins or more, or fewer than k_0, by 12, then by 10 where the buffer is shorter than this
 -- message. Otherwise it writes the honest message that follows the prefix at the buffer's start, leaves the rest and answers its word count."
 abbrev pub place_of : List ℕ → List ℕ → Place
 place_of c prefix = get_or (rounds c) (length prefix - output_exponent c) (place 0 0)

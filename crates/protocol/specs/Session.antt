@@ -10,14 +10,14 @@ use Rattle.protocol.specs.Rounds.{Place, place}
 use Rattle.protocol.specs.Judge.{descent, input_agrees}
 use Rattle.protocol.specs.Check.{need_outputs, need_coins}
 
--- Open session: "It refuses by 1 to 9", 21, 13, 11 and 12. "The record has layer 1, round 0", the first claim, "and is open."
+-- Open session: "It refuses by 1 to 9, 21, 13, 11, 12." "The record has layer 1, round 0, the first standing claim, and is open".
 unfoldable pub open_cause : List ℕ → List ℕ → List ℕ → List ℕ → ℕ
 open_cause c input ys cs = first (lists_cause c input) (need_outputs c ys (need_coins c cs 0))
 
 abbrev pub opened_at : List ℕ → List ℕ → List ℕ → Record Place
 opened_at c ys cs = at (place 1 0) (first_claim c ys cs)
 
--- an opening gives the coins before any message and the record: "Opening hands them out."
+-- "Opening hands out the coins of the first point", and gives the record
 pub data OpenAnswer : Type 0 where
   opens : List ℕ → Record Place → OpenAnswer
   refuses : ℕ → OpenAnswer

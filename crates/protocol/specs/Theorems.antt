@@ -18,13 +18,13 @@ use Rattle.protocol.specs.Shares.{PassesAll, PassesFew, PassesByLuck}
 use Rattle.protocol.specs.Accept.{Acceptance, FitsCircuit, whole_accepts, session_accepts}
 use Rattle.protocol.specs.One.{WithOneOutput}
 
--- COMPLETENESS: "the honest prover's messages for the true" outputs "are accepted on all of them"
+-- COMPLETENESS: "the honest prover's messages for the true outputs are accepted on all of them"
 abbrev pub Complete : Acceptance → Type 0
 Complete accepts =
     (c input : List ℕ) → lists_cause c input ≡ 0 → PassesAll c (accepts c input (outputs c input) (honest c input))
 
--- SOUNDNESS: whatever rule a false prover follows, a false list of outputs is accepted on at most (k_0 + 5 × K) × p^(n-1) of the p^n coin lists. "A
--- list is false if one word is", or if it has another length. The rule is taken after circuit, input and outputs, so that it may depend on them.
+-- SOUNDNESS: "Whatever rule a false prover follows, a false list of outputs is accepted on at most (k_0 + 5 × K) × p^(n-1) of the p^n coin lists". "a
+-- list is false if one word is, or if it has another length". The rule is taken after circuit, input and outputs, so that it may depend on them.
 abbrev pub Sound : Acceptance → Type 0
 Sound accepts =
     (c input : List ℕ) → lists_cause c input ≡ 0 → (ys : List ℕ) → ¬ (ys ≡ outputs c input) → (rule : Rule Place) → FitsCircuit c rule
@@ -114,7 +114,8 @@ RefusalKeeps =
     (c input cs : List ℕ) (s : Record Place) (m : List ℕ) (cause : ℕ) → (step_answer c input cs s m).0 ≡ refused cause
     → (step_answer c input cs s m).1 ≡ record_left cause s
 
--- "The honest message after j coins depends on the first j only": message j of the honest transcript is the one that follows the coins before it
+-- "The honest message number j, from 0, reads k_0 + j coins; it depends on these alone": message j of the honest transcript is the one that follows
+-- the coins before it
 abbrev pub HonestByPrefix : Type 0
 HonestByPrefix =
     (c input cs : List ℕ) (j : ℕ) → length cs ≡ coin_count c → output_exponent c + j < coin_count c

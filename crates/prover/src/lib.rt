@@ -77,12 +77,7 @@ fn write_all(job: Job, messages: &mut [u32]) -> Proof
 }
 
 // Prove, whole: 1 to 9, 11, 12, 10; then the outputs and the words written.
-pub fn prove(
-    circuit: &[u32],
-    input: &[u32],
-    coins: &[u32],
-    messages: &mut [u32],
-) -> Proof
+pub fn prove(circuit: &[u32], input: &[u32], coins: &[u32], messages: &mut [u32]) -> Proof
     ensures { Proves circuit.now input.now coins.now messages.old result messages.new }
 {
     match Job::check(circuit, input, coins) {

@@ -73,12 +73,7 @@ impl Session {
 }
 
 // The first standing claim, or the first of 1 to 9, 21, 13, 11 and 12: with it the whole check begins, as an opening does.
-pub fn start(
-    circuit: &[u32],
-    input: &[u32],
-    outputs: &[u32],
-    coins: &[u32],
-) -> Result<u32, Cause>
+pub fn start(circuit: &[u32], input: &[u32], outputs: &[u32], coins: &[u32]) -> Result<u32, Cause>
     ensures { Starts circuit.now input.now outputs.now coins.now result }
 {
     legality::check_lists(circuit, input)?;

@@ -3,9 +3,8 @@
 use Prim.Native.Nat.{ℕ, zero, suc, ◌+◌, ◌-◌, ◌*◌, ◌≤◌, ◌<◌, zero-le, min}
 use mathlib.Core.Path.{◌≡◌, refl, sym, ap, ap₂, ◌∙◌, subst}
 use mathlib.Core.List.{List}
-use native.Mathlib.Decide.{dec_lt}
 use native.Mathlib.Omega.{arith}
-use lib.ListN.{length, length-drop, take, drop, get_or, drop_of_length-le}
+use lib.ListN.{length, length-drop, take, drop, get_or}
 use lib.Seq.{take_all, get_or-drop, length-take-le}
 use Rattle.lists.proofs.Count.{sum_nil}
 use Rattle.lists.proofs.Front.{front_whole, front_take}

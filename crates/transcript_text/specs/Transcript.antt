@@ -1,4 +1,4 @@
--- What the program `transcript` prints: "`claim` and the" outputs, "then for each message `sum` or `line` and its words".
+-- What the program `transcript` prints: "`claim` and the outputs, then for each message `sum` or `line` and its words".
 -- Assumes nothing.
 use Rattle.std.specs.Prelude.{ℕ, cond, List, [], ◌∷◌, ◌++◌, take, drop}
 use Rattle.refusal.specs.Order.{first}

@@ -14,8 +14,7 @@ use layout::{MAX_DEPTH, MAX_EXPONENT, MAX_OUTPUT_EXPONENT, MAX_OUTPUTS};
 use standing::Place;
 
 // The coins and message words of the largest circuit.
-const MAX_COINS: usize =
-    MAX_OUTPUT_EXPONENT as usize + MAX_DEPTH * (2 * MAX_EXPONENT as usize + 1);
+const MAX_COINS: usize = MAX_OUTPUT_EXPONENT as usize + MAX_DEPTH * (2 * MAX_EXPONENT as usize + 1);
 
 const MAX_MESSAGE_WORDS: usize = MAX_DEPTH * (7 * MAX_EXPONENT as usize + 1);
 

@@ -17,11 +17,7 @@ pub fn load<W: Write>(output: &mut W, lists: &[u32]) -> Result<std::result::Resu
     Ok(loaded)
 }
 
-pub fn evaluate<W: Write>(
-    output: &mut W,
-    lists: &[u32],
-    lent: &mut [u32],
-) -> Result<Evaluated>
+pub fn evaluate<W: Write>(output: &mut W, lists: &[u32], lent: &mut [u32]) -> Result<Evaluated>
     ensures { IfOk result (λ r. Evaluates (list_at 0 lists.now) (list_at 1 lists.now) lent.old r lent.new) }
 {
     let evaluated = evaluation::evaluate(cases::list(lists, 0), cases::list(lists, 1), lent);

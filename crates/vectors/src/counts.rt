@@ -158,5 +158,9 @@ pub fn count_rule<W: Write>(output: &mut W, lists: &[u32]) -> Result<u32>
     ensures { IfOk result (λ n. n ≤ all_lists) }
 {
     let rule = cases::list(lists, 3);
-    count(output, lists, |circuit, _, number| ruled(circuit, rule, number))
+    count(
+        output,
+        lists,
+        |circuit, _, number| ruled(circuit, rule, number),
+    )
 }

@@ -7,11 +7,7 @@ use prover::Proof;
 use refusal::Cause;
 use std::io::{Result, Write};
 
-pub fn prove<W: Write>(
-    output: &mut W,
-    lists: &[u32],
-    lent: &mut [u32],
-) -> Result<Proof>
+pub fn prove<W: Write>(output: &mut W, lists: &[u32], lent: &mut [u32]) -> Result<Proof>
     ensures { IfOk result (λ r. Proves (list_at 0 lists.now) (list_at 1 lists.now) (list_at 2 lists.now) lent.old r lent.new) }
 {
     let proved = prover::prove(
