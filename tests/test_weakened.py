@@ -3,8 +3,8 @@
     python3 tests/test_weakened.py
 
 The promise is given for legal circuits and inputs alone, by a condition in the `ensures` or by a `requires`, and the proof is fitted to it: the
-function's own crate is proved as before. Of an operation the library's function that calls it is refused, or Check, which opens as Open does; of a
-function of the library `machine`, which takes the contract for its hypothesis. An edit in must-fail/ cannot show this, since such an edit proves its
+function's own crate is proved as before. Of an operation the library's function that calls it is refused; of a function of the library `machine`,
+which takes the contract for its hypothesis. An edit in must-fail/ cannot show this, since such an edit proves its
 own crate alone. It works on copies of crates/, whose checks begin with what those of this folder kept, and first proves an untouched one.
 
 What `kidlothe_c` exports to C is not among the hypotheses, since no crate can stand on an export: there each contract has to be, word for word, that
@@ -24,7 +24,7 @@ CONTRACTS = "proofs/Contracts.antt"
 # groups that share a copy: the crate, and for each case the function, how it is weakened, and what is refused, a function or a field of `contracts_say`;
 # the longest first
 GROUPS = [
-    ("session", [("open", "ensures", "verifier::check"), ("step", "ensures", "kidlothe::kidlothe_step")]),
+    ("session", [("open", "ensures", "kidlothe::kidlothe_open"), ("step", "ensures", "kidlothe::kidlothe_step")]),
     ("prover", [("prove", "ensures", "kidlothe::kidlothe_prove"), ("prove_one", "ensures", "kidlothe::kidlothe_prove_one")]),
     ("verifier", [("check", "ensures", "kidlothe::kidlothe_check")]),
     ("kidlothe", [("kidlothe_check", "ensures", "exported_check"), ("kidlothe_open", "ensures", "exported_begin"),
