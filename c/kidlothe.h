@@ -12,7 +12,8 @@
  * empty gate: its value is 0 and its wires are 0 0. Kind 1 adds, kind 2 multiplies and kind 3 is left minus right,
  * modulo p. Left and right name gates of the next layer, from 0 on; left is at most right, but for kind 3.
  *
- * OUTPUTS. A list of 2^k_0 words, in the order of their gates. It is false if one of its words is.
+ * OUTPUTS. A list of 2^k_0 words, in the order of their gates. It is false if one of its words is, or if it has
+ * another length.
  *
  * COINS AND MESSAGES. The first k_0 coins come before any message. They are a point, the first coin for the highest bit
  * of an output's index, and the first claim is the value there of the multilinear extension of the outputs. Then, for
@@ -179,7 +180,7 @@ kidlothe_proof kidlothe_prove(
 
 /* Prove, one message: the honest message that follows the coins handed out so far, the first k_0 among them. Answers
  * how many words it has; the buffer then begins with them, and the rest of it is unchanged. Refuses by the first of
- * 1 to 9, 11, 12 and 10. */
+ * 1 to 9, 11, 12 and 10: by 11 for fewer than k_0 coins, and for all n of them or more, which no message follows. */
 kidlothe_written kidlothe_prove_one(
     const uint32_t *circuit, size_t circuit_length,
     const uint32_t *input, size_t input_length,

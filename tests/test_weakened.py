@@ -4,8 +4,8 @@
 
 The promise is given for legal circuits and inputs alone, by a condition in the `ensures` or by a `requires`, and the proof is fitted to it: the
 function's own crate is proved as before. Of an operation the library's function that calls it is refused; of a function of the library `machine`,
-which takes the contract for its hypothesis. An edit in must-fail/ cannot show this, since such an edit proves its
-own crate alone. It works on copies of crates/, whose checks begin with what those of this folder kept, and first proves an untouched one.
+which takes the contract for its hypothesis. An edit in must-fail/ cannot show this, since such an edit proves its own crate alone. It works on
+copies of crates/, whose checks begin with what those of this folder kept, and first proves an untouched one.
 
 What `kidlothe_c` exports to C is not among the hypotheses, since no crate can stand on an export: there each contract has to be, word for word, that
 of the library's function of its name.

@@ -22,7 +22,7 @@ use Rattle.circuit.specs.Circuit.{
 }
 use Rattle.circuit.specs.Sized.{LegalCircuit}
 use Rattle.circuit.specs.Theorems.{InLimits, LegalSizes, LargestSizes}
-use Rattle.circuit.proofs.Sized.{width_le, count_few, deep, last_small}
+use Rattle.circuit.proofs.Sized.{width_le, outputs_few, count_few, deep, last_small}
 use Rattle.circuit.proofs.Loading.{legal_circuit}
 use Rattle.circuit.proofs.Layers.{all_below_lem}
 
@@ -44,6 +44,7 @@ module _ (c : List ℕ) (h : LegalCircuit c) where
       let flat = h.sized.headed.shallow in
       let few = count_few c h.sized.headed in
       record {
+        outputs = outputs_few (output_exponent c) h.sized.headed.few;
         words = omega arith;
         values = let wide = width_le (input_exponent c) (last_small c h) in omega arith;
         coins = let outs = h.sized.headed.few in omega (arith, sum_few 2);
@@ -59,6 +60,7 @@ largest_sizes c d o e =
     let gates : gate_count (output_exponent c) (exponents c) ≡ max_gates = ap₂ gate_count o e in
     let inputs : input_count c ≡ max_width = ap₂ (λ (k : ℕ) (ks : List ℕ). 2 ^ get_or (k ∷ ks) (length ks) 0) o e in
     record {
+      most_outputs = ap (λ (k : ℕ). 2 ^ k) o;
       most_words = omega (arith, d, gates);
       most_values = omega (arith, gates, inputs);
       most_coins = ap₂ (λ (k : ℕ) (ks : List ℕ). k + sum (map (λ k. 2 * k + 1) ks)) o e;

@@ -86,6 +86,6 @@ coin_count c = output_exponent c + sum (map (λ k. 2 * k + 1) (exponents c))
 unfoldable pub message_words : List ℕ → ℕ
 message_words c = sum (map (λ k. 7 * k + 1) (exponents c))
 
--- K, the sum of the width exponents
+-- "K is the sum of k_1 to k_D, never with k_0."
 unfoldable pub exponent_sum : List ℕ → ℕ
 exponent_sum c = sum (exponents c)

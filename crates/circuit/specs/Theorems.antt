@@ -5,7 +5,7 @@ use Rattle.lists.specs.Each.{All}
 use Rattle.primes.specs.Prime.{Prime}
 use Rattle.algebra.specs.Numbers.{words}
 use Rattle.circuit.specs.Gate.{gate_value}
-use Rattle.circuit.specs.Limits.{max_depth, max_exponent, max_output_exponent, max_values, max_words, max_coins, max_message_words}
+use Rattle.circuit.specs.Limits.{max_depth, max_exponent, max_output_exponent, max_outputs, max_values, max_words, max_coins, max_message_words}
 use Rattle.circuit.specs.Circuit.{prime_of, depth, output_exponent, exponents, exponent_at, gates_at, word_count, value_count, coin_count, message_words}
 use Rattle.circuit.specs.Legal.{load_answer, lists_cause}
 use Rattle.circuit.specs.Values.{layers, values_at, outputs, value}
@@ -50,6 +50,7 @@ OneOutput = (c input : List ℕ) → lists_cause c input ≡ 0 → output_expone
 
 -- no legal circuit is larger than the limits say
 pub record InLimits (c : List ℕ) : Type 0 where
+  pub outputs : 2 ^ output_exponent c ≤ max_outputs
   pub words : word_count c ≤ max_words
   pub values : value_count c ≤ max_values
   pub coins : coin_count c ≤ max_coins
@@ -61,6 +62,7 @@ LegalSizes = (c : List ℕ) → load_answer c ≡ 0 → InLimits c
 -- and no limit is larger than it must be: a circuit of as many outputs and layers as there can be, each layer as wide as it can be,
 -- has these sizes
 pub record AtLimits (c : List ℕ) : Type 0 where
+  pub most_outputs : 2 ^ output_exponent c ≡ max_outputs
   pub most_words : word_count c ≡ max_words
   pub most_values : value_count c ≡ max_values
   pub most_coins : coin_count c ≡ max_coins

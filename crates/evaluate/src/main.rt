@@ -1,4 +1,4 @@
-// The program `evaluate`: reads a circuit and its input as two arrays (RFC 4506) on standard input, and prints the circuit's output.
+// The program `evaluate`: reads a circuit and its input as two arrays (RFC 4506) on standard input, and prints the circuit's outputs.
 #![tactic(auto)]
 
 use programs::Program;

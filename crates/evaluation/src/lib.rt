@@ -68,7 +68,7 @@ fn place_input(input: &[u32], at: usize) -> [u32; MAX_VALUES]
     values
 }
 
-// The values of all layers, the output's first, in a working array that is filled from the input's place up.
+// The values of all layers, the outputs first, in a working array that is filled from the input's place up.
 fn all_values(circuit: &[u32], input: &[u32], place: usize) -> [u32; MAX_VALUES]
     requires { (lists_cause circuit.now input.now ≡ 0) × (place ≡ gates_before circuit.now (depth circuit.now)) }
     ensures { AllValues circuit.now input.now result }

@@ -1,6 +1,6 @@
 // The library's functions, which `kidlothe_c` exports to programs in C and in Rust: numbers by value, a list as a pointer and a length, a
 // session's record as four words. An answer is plain numbers: a refusal's number, 0 where nothing is refused, and beside it what the operation
-// answers, 0 where it is refused.
+// answers, 0 where it is refused. A list in an answer is a count and a row of words.
 #![tactic(auto)]
 
 ghost use Rattle.std.specs.Prelude.{◌≡◌};

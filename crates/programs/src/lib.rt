@@ -17,7 +17,7 @@ pub enum Program {
     Transcript,
     // Prints whether the transcript that follows them is accepted.
     Verdict,
-    // Prints the output of a circuit and its input.
+    // Prints the outputs of a circuit for an input.
     Evaluate,
 }
 

@@ -152,8 +152,10 @@ module _ (c input : List ℕ) (legal : lists_cause c input ≡ 0) (buffer : List
       let w : ℕ = message_length c (place_of c past) in
       let m : List ℕ = honest c input (place_of c past) past in
       let name = named c past r here in
+      let follows : followed c (length past) ≡ true =
+      simp (le-leb (output_exponent c) (length past) (after_first here), lt-ltb (length past) (coin_count c) few) in
       let none : prove_one_cause c input past (buffer past) ≡ 0 =
-      simp (legal, le-leb (output_exponent c) (length past) (after_first here), lt-ltb (length past) (coin_count c) few, below_all (prime_of c) past below, le-leb w (length (buffer past)) (room past)) in
+      simp (legal, follows, below_all (prime_of c) past below, le-leb w (length (buffer past)) (room past follows)) in
       let long : length m ≡ w = ap (λ (q : Place). length (honest c input q past)) name ∙ (honest_words c input legal r past here).0 ∙ ap (message_length c) (sym name) in
       ap₂ message_in (ap (λ (k : ℕ). one_of k w) none) (ap (λ (k : ℕ). cond (eqb k 0) (over m (buffer past)) (buffer past)) none)
       ∙ ap (λ (k : ℕ). take k (over m (buffer past))) (sym long)

@@ -1,6 +1,6 @@
 -- The honest messages, and both forms of Prove.
 -- Assumes nothing.
-use Rattle.std.specs.Prelude.{ℕ, zero, suc, ◌-◌, ◌≤◌, Bool, ◌&&◌, cond, eqb, ltb, leb, length, take, drop, get_or}
+use Rattle.std.specs.Prelude.{ℕ, zero, suc, ◌-◌, ◌≤◌, ◌≡◌, Bool, true, ◌&&◌, cond, eqb, ltb, leb, length, take, drop, get_or}
 use mathlib.Core.List.{List, [], flatten}
 use Rattle.lists.specs.Buffer.{over}
 use Rattle.algebra.specs.Numbers.{words}
@@ -95,6 +95,6 @@ message_in (refused cause) after = []
 abbrev pub asking : List ℕ → List ℕ → (List ℕ → List ℕ) → Rule Place
 asking c input buffer r past = message_in (prove_one_answer c input past (buffer past)) (prove_one_buffer c input past (buffer past))
 
--- each of these buffers holds the message that it is for
+-- each of these buffers, one for each list of coins that a message follows, holds that message
 abbrev pub Roomy : List ℕ → (List ℕ → List ℕ) → Type 0
-Roomy c buffer = (past : List ℕ) → message_length c (place_of c past) ≤ length (buffer past)
+Roomy c buffer = (past : List ℕ) → followed c (length past) ≡ true → message_length c (place_of c past) ≤ length (buffer past)

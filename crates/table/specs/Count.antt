@@ -4,7 +4,7 @@ use Rattle.std.specs.Prelude.{ℕ, ◌+◌, ◌-◌, ◌*◌, ◌^◌, ◌≤◌
 use mathlib.Core.List.{List, [], ◌∷◌, flatten}
 use Rattle.counting.specs.Coins.{passing}
 use Rattle.counting.specs.Doomed.{luckless}
-use Rattle.circuit.specs.Circuit.{output_exponent, coin_count, exponent_sum}
+use Rattle.circuit.specs.Circuit.{prime_of, output_exponent, coin_count, exponent_sum}
 use Rattle.walk.specs.Game.{passes}
 use Rattle.protocol.specs.Check.{check_answer}
 use Rattle.protocol.specs.Shares.{coin_losses}
@@ -16,11 +16,11 @@ passes_with r cs = passes (check_answer r.circuit r.input r.outputs cs (flatten 
 
 -- the count over all coin lists of its circuit
 unfoldable pub lucky_coins : Row → ℕ
-lucky_coins r = passing 13 (coin_count r.circuit) (passes_with r)
+lucky_coins r = passing (prime_of r.circuit) (coin_count r.circuit) (passes_with r)
 
 -- (k_0 + 5 × K) × p^(n - 1), which demand 3 allows a false list
 unfoldable pub allowed : Row → ℕ
-allowed r = (output_exponent r.circuit + 5 * exponent_sum r.circuit) * 13 ^ (coin_count r.circuit - 1)
+allowed r = (output_exponent r.circuit + 5 * exponent_sum r.circuit) * prime_of r.circuit ^ (coin_count r.circuit - 1)
 
 -- of C7, 16 of the 13³ = 2,197
 abbrev pub LuckyCoins : Type 0

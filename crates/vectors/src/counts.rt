@@ -8,15 +8,15 @@ ghost use Rattle.vectors.specs.Counts.{all_lists};
 use session::Verdict;
 use std::io::{Result, Write};
 
-// The coins of the messages, and with one before any.
-const MESSAGES: usize = 3;
+// The coins of the three messages, and with the one before them.
+const MESSAGE_COINS: usize = 3;
 
-const MOST: usize = 4;
+const MOST_COINS: usize = 4;
 
-// All lists of so many.
-const ALL_OF_MESSAGES: u32 = 2197;
+// All lists of so many coins below 13.
+const LISTS_OF_THREE: u32 = 2197;
 
-const ALL_LISTS: u32 = 28561;
+const LISTS_OF_FOUR: u32 = 28561;
 
 // The coins before any message of a circuit of one or two outputs.
 fn first_coins(circuit: &[u32]) -> usize
@@ -26,7 +26,7 @@ fn first_coins(circuit: &[u32]) -> usize
 }
 
 // The list of four coins below 13 that has a number. The last three are those of the messages.
-fn coins_of(number: u32) -> [u32; MOST] {
+fn coins_of(number: u32) -> [u32; MOST_COINS] {
     [
         number / 2197 % 13,
         number / 169 % 13,
@@ -36,8 +36,8 @@ fn coins_of(number: u32) -> [u32; MOST] {
 }
 
 // The coins of a circuit in a list of four.
-fn coins<'a>(circuit: &[u32], all: &'a [u32; MOST]) -> &'a [u32] {
-    &all[MOST - MESSAGES - first_coins(circuit)..]
+fn coins<'a>(circuit: &[u32], all: &'a [u32; MOST_COINS]) -> &'a [u32] {
+    &all[MOST_COINS - MESSAGE_COINS - first_coins(circuit)..]
 }
 
 // The prover's messages, all at once.
@@ -58,7 +58,7 @@ fn following(circuit: &[u32], input: &[u32], prefix: &[u32]) -> [u32; 3] {
 // The prover's messages, one after the other.
 fn single(circuit: &[u32], input: &[u32], number: u32) -> [u32; 8] {
     let all = coins_of(number);
-    let start = MOST - MESSAGES - first_coins(circuit);
+    let start = MOST_COINS - MESSAGE_COINS - first_coins(circuit);
     let [a, b, c] = following(circuit, input, &all[start..1]);
     let [d, e, f] = following(circuit, input, &all[start..2]);
     let [g, h, _] = following(circuit, input, &all[start..3]);
@@ -112,7 +112,7 @@ fn count<W: Write, M: Fn(&[u32], &[u32], u32) -> [u32; 8]>(
     let circuit = cases::list(lists, 0);
     let input = cases::list(lists, 1);
     let outputs = cases::list(lists, 2);
-    let tried = ALL_OF_MESSAGES + (ALL_LISTS - ALL_OF_MESSAGES) * first_coins(circuit) as u32;
+    let tried = LISTS_OF_THREE + (LISTS_OF_FOUR - LISTS_OF_THREE) * first_coins(circuit) as u32;
     let mut by_check = 0;
     let mut by_session = 0;
     // By number, from which a list is made.

@@ -1,4 +1,4 @@
-// The program `verdict`: reads a circuit, its input, coins and a transcript, the output first and then the message words, as four arrays
+// The program `verdict`: reads a circuit, its input, coins and a transcript, the outputs first and then the message words, as four arrays
 // (RFC 4506) on standard input, and prints whether the check accepts it.
 #![tactic(auto)]
 

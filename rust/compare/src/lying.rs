@@ -2,6 +2,7 @@
 
 use crate::arena::Arena;
 use crate::call::{List, Operation};
+use crate::draw::Draw;
 use crate::instance::Instance;
 use crate::outcome::{of_plain, Answer};
 use crate::residues::{add, ends_sum, mul, sub, value};
@@ -14,24 +15,38 @@ const TRIES: usize = 40;
 /// A whole transcript of lies, checked and sometimes stepped through. No sum round can tell that it lies.
 pub fn transcript(arena: &mut Arena, instance: &Instance) {
     let mut outputs = instance.outputs.clone();
-    let false_word = (!arena.draw.one_in(4)).then(|| arena.draw.below(outputs.len()));
-    if let Some(index) = false_word {
-        outputs[index] = arena.draw.other_residue(instance.prime, outputs[index]);
+    let false_words = false_words(&mut arena.draw, outputs.len());
+    for &index in &false_words {
+        outputs[index] = arena.draw.other_residue(instance.prime, instance.outputs[index]);
     }
-    let kind = if false_word.is_some() { Kind::FalseOutput } else { Kind::FalseMessages };
+    let kind = if false_words.is_empty() { Kind::FalseMessages } else { Kind::FalseOutput };
     let messages = lies(arena, instance, &outputs);
     let check = instance.claim_call(Operation::Check, &outputs, &messages);
     let outcome = arena.compare(kind, &check);
     if !matches!(outcome.answer, Answer::Accepted | Answer::Refused(17 | 18)) {
         arena.fail("a transcript whose sums are right is refused otherwise", kind, &check, &outcome);
     }
-    if let Some(index) = false_word {
+    if let [index] = false_words[..] {
         let hidden = instance.first_claim(&outputs) == instance.claim(0);
         arena.tally.features.extend(feature(instance.prime, index, hidden, outcome.answer));
     }
     if arena.draw.one_in(3) {
         session(arena, kind, instance, &outputs, &messages);
     }
+}
+
+/// The outputs that are false: one, or none, or two.
+fn false_words(draw: &mut Draw, count: usize) -> Vec<usize> {
+    let number = if draw.one_in(4) {
+        0
+    } else if draw.one_in(3) {
+        2
+    } else {
+        1
+    };
+    let mut words: Vec<usize> = (0..number).map(|_| draw.below(count)).collect();
+    words.dedup();
+    words
 }
 
 /// What a list with one false word has met. It is hidden where the first claim is nevertheless the true one.

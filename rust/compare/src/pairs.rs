@@ -1,12 +1,13 @@
 //! Every refusal on purpose, and two of them on one input: the one that is tried first must be given.
 
 use crate::arena::Arena;
-use crate::call::{Call, Operation};
+use crate::call::{Call, List, Operation};
 use crate::fault::{place_for, Fault};
 use crate::instance::Instance;
 use crate::order::pairs;
 use crate::outcome::Answer;
 use crate::tally::{Feature, Kind};
+use kidlothe::MAX_OUTPUT_EXPONENT;
 
 /// Draws a pair of refusals and tries each alone, then both.
 pub fn two_faults(arena: &mut Arena, instance: &Instance) {
@@ -51,7 +52,13 @@ fn earns_its_number(arena: &mut Arena, instance: &Instance, base: &Call, fault: 
 /// What the refusal has met.
 fn feature(instance: &Instance, call: &Call, number: u32) -> Option<Feature> {
     let first = instance.first_coins().len();
+    let outputs = call.list(List::Outputs);
+    let output_exponent = call.list(List::Circuit).get(2).copied();
     match number {
+        4 if output_exponent == Some(MAX_OUTPUT_EXPONENT as u32 + 1) => Some(Feature::OutputExponentRefused),
+        5 if output_exponent != Some(instance.exponents[0]) => Some(Feature::OtherOutputExponentRefused),
+        13 => outputs.iter().position(|&word| word >= instance.prime).map(Feature::OutputWordRefused),
+        21 => Some(Feature::OutputCountRefused(outputs.len().cmp(&instance.outputs.len()))),
         11 if call.operation == Operation::ProveOne && call.coins().len() + 1 == first => {
             Some(Feature::ShortPrefixRefused(first))
         }

@@ -93,6 +93,14 @@ pub enum Feature {
     HiddenOutputAccepted(u32),
     /// A false output of this index that was refused.
     FalseOutputRefused(usize),
+    /// A 4 of a circuit whose k_0 is one above the largest.
+    OutputExponentRefused,
+    /// A 5 of a circuit whose k_0 is another one that the limits allow.
+    OtherOutputExponentRefused,
+    /// A 21 of so many outputs beside the right number.
+    OutputCountRefused(Ordering),
+    /// A 13 of the output of this index.
+    OutputWordRefused(usize),
     /// An 11 of a prefix that lacks the last of this many coins before any message.
     ShortPrefixRefused(usize),
     /// An 18 of a circuit with one input word.

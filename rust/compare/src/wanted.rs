@@ -70,7 +70,11 @@ fn features() -> Vec<Feature> {
         features.extend([Less, Equal].map(|order| Feature::Accepted(kind, order)));
     }
     features.push(Feature::Accepted(3, Greater));
-    features.extend((0..MAX_OUTPUTS).map(Feature::FalseOutputRefused));
+    features.extend([Feature::OutputExponentRefused, Feature::OtherOutputExponentRefused]);
+    features.extend([Less, Greater].map(Feature::OutputCountRefused));
+    features.extend(
+        (0..MAX_OUTPUTS).flat_map(|index| [Feature::FalseOutputRefused(index), Feature::OutputWordRefused(index)]),
+    );
     features.extend((1..=MAX_OUTPUT_EXPONENT).map(Feature::ShortPrefixRefused));
     for kind in 0..=UNKNOWN_KIND {
         features.extend([Less, Equal, Greater].map(|order| Feature::Gate(kind, order)));

@@ -179,7 +179,8 @@ pub fn prove(circuit: &[u32], input: &[u32], coins: &[u32], messages: &mut [u32]
 
 /// Prove, one message: the honest message that follows the coins handed out so far, the first k_0 among them. Answers
 /// how many words it has. The buffer then begins with them; the rest of it is unchanged. Refuses by the first of 1 to
-/// 9, 11, 12 and 10, and leaves the buffer then.
+/// 9, 11, 12 and 10, and leaves the buffer then. 11 is for fewer than k_0 coins, and for all n of them or more, which
+/// no message follows.
 pub fn prove_one(circuit: &[u32], input: &[u32], prefix: &[u32], buffer: &mut [u32]) -> Result<usize, Refusal> {
     // SAFETY: the lists are borrowed for the call, the buffer mutably, so it overlaps none of them.
     let answer = unsafe {

@@ -3,7 +3,8 @@ use crate::MAX_OUTPUTS;
 use std::fmt;
 use std::ops::Deref;
 
-/// A list of at most [`MAX_OUTPUTS`] words: a circuit's outputs, or the coins that come before any message.
+/// A list of at most [`MAX_OUTPUTS`] words: a circuit's outputs, or the coins that come before any message. It is
+/// read as a slice: `&*list`.
 #[derive(Clone, Copy, PartialEq, Eq)]
 #[repr(C)]
 pub struct ShortList {

@@ -1,5 +1,5 @@
 //! Lists of outputs and of first coins by value.
-use kidlothe::{check, evaluate, prove, Refusal, Session, MAX_MESSAGE_WORDS, MAX_OUTPUTS};
+use kidlothe::{check, evaluate, prove, prove_one, Refusal, Session, MAX_MESSAGE_WORDS, MAX_OUTPUTS};
 
 /// The product and the sum of two input words.
 const CIRCUIT: [u32; 10] = [13, 1, 1, 1, 2, 0, 1, 1, 0, 1];
@@ -29,6 +29,13 @@ fn a_single_output_hands_out_no_first_coin() {
     let opening = Session::open(&[13, 1, 0, 1, 2, 0, 1], &INPUT, &[2], &COINS[1..]).unwrap();
     assert_eq!((opening.coins.len(), opening.coins.row()), (0, &row(&[])));
     assert_eq!(opening.session.words(), [1, 0, 2, 1]);
+}
+
+#[test]
+fn no_message_comes_before_the_first_coins() {
+    let mut buffer = [0; 3];
+    assert_eq!(prove_one(&CIRCUIT, &INPUT, &COINS[..0], &mut buffer), Err(Refusal::CoinCount));
+    assert_eq!((prove_one(&CIRCUIT, &INPUT, &COINS[..1], &mut buffer), buffer), (Ok(3), [10, 11, 5]));
 }
 
 #[test]

@@ -20,7 +20,7 @@ pub(crate) const MOST_LIST_WORDS: usize = 2 + (MOST_LAYERS + 1) + 3 * (MOST_VALU
 /// A legal circuit, over the words of its list.
 pub(crate) struct Circuit<'a> {
     pub(crate) field: Field,
-    /// Of all layers, from the output to the input.
+    /// Of all layers, from the outputs to the input.
     exponents: &'a [u32],
     gates: &'a [Gate],
     /// Where each layer's values begin; the entry after the input is the number of all values.
