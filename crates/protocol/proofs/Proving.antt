@@ -31,7 +31,7 @@ use Rattle.protocol.specs.Rounds.{Place, place, rounds, layer_start, AtRound}
 use Rattle.protocol.specs.Judge.{message_length, descent}
 use Rattle.protocol.specs.Check.{check_answer}
 use Rattle.protocol.specs.Session.{session_on}
-use Rattle.protocol.specs.Prove.{Proof, proved, refused, OneMessage, wrote, proof_of, one_of, honest, messages_on, transcript, place_of, message_in, asking, Roomy}
+use Rattle.protocol.specs.Prove.{Proof, proved, refused, OneMessage, wrote, proof_of, one_of, honest, messages_on, transcript, place_of, followed, message_in, asking, Roomy}
 use Rattle.protocol.specs.Prove.{prove_cause, prove_answer, prove_buffer, prove_one_cause, prove_one_answer, prove_one_buffer}
 use Rattle.protocol.specs.Theorems.{ProvedAccepted, ProvedInTurn, AskedAccepted}
 use Rattle.protocol.proofs.Rounds.{as_many, coins_split}
