@@ -11,13 +11,16 @@ pub fn word(list: &[u32], at: usize) -> u32
     list.get(at).copied().unwrap_or(0)
 }
 
-// Writes items over the front of a buffer, as many as it holds, and answers how many.
+// Writes items over the front of a buffer, as many as it holds, and answers how many. By place: `copy_from_slice` may be a call of `memmove`, which
+// the library would then need from outside.
 pub fn put<T: Copy>(buffer: &mut [T], items: &[T]) -> usize
     ensures within { result ≤ length buffer.new }
     ensures count { result ≡ min (length items.now) (length buffer.old) }
     ensures items { buffer.new ≡ over (take (length buffer.old) items.now) buffer.old }
 {
     let count = items.len().min(buffer.len());
-    buffer[..count].copy_from_slice(&items[..count]);
+    for (i, &item) in items[..count].iter().enumerate() {
+        buffer[i] = item;
+    }
     count
 }
