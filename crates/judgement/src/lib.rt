@@ -9,7 +9,6 @@ use refusal::Cause;
 use standing::Round;
 
 // The summand at the two points of a layer's line, with x and y for what the line gives at its ends.
-#[tactic(auto, using(circuit::proofs::Layers::prime_modulus, crate::proofs::Lines::line_claim_lem))]
 fn line_claim(round: Round, x: u32, y: u32) -> u32
     ensures { ClaimsLine round.entry.circuit.now (as_place round.entry.place) round.entry.past.now x y result }
 {

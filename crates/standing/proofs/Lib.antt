@@ -1,3 +1,4 @@
+pub mod Padded
 pub mod Points
 pub mod Outputs
 pub mod Coins

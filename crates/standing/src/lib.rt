@@ -9,6 +9,7 @@ ghost use Rattle.circuit.specs.Circuit.{exponents, exponent_at};
 ghost use Rattle.protocol.specs.Start.{first_point};
 ghost use Rattle.protocol.specs.Rounds.{is_line};
 ghost use Rattle.protocol.specs.Judge.{message_length};
+ghost use Rattle.standing.specs.Row.{padded};
 ghost use Rattle.standing.specs.Standing.{as_place, Row, PointStands, LayerSoFar, layer_sum, CoinsBefore, CoinsOf, WordsOf, ChecksOutputs, ChecksCoins, StandsAt};
 
 use extension::MAX_COORDINATES;
@@ -134,22 +135,28 @@ pub fn check_coins(circuit: &[u32], coins: &[u32]) -> Result<(), Cause>
     Ok(())
 }
 
-// A point of no more coordinates than a row holds.
-#[derive(Default, Drop)]
+// A point of no more coordinates than a row holds. The rest of its row is 0, so that its coordinates say all of it, and it may be copied.
+#[derive(Clone, Copy, Default)]
 pub struct Point {
     row: [u32; MAX_COORDINATES],
     count: usize,
 }
 
 impl Model for Point {
-    ghost use Rattle.std.specs.Prelude.{ℕ, ◌≤◌, List, take};
+    ghost use Rattle.std.specs.Prelude.{ℕ, ◌≡◌, ◌≤◌, List, length, take, replicate};
+    ghost use Rattle.lists.proofs.Front.{front_again};
     ghost use Rattle.extension.specs.Limits.{row_length};
+    ghost use Rattle.standing.specs.Row.{padded};
 
     ghost Value = { List ℕ };
 
     ghost view = { λ p. take p.count p.row };
 
-    ghost invariant = { λ p. p.count ≤ row_length };
+    ghost inverse = { λ l. record { row = padded l; count = length l } };
+
+    ghost invariant = { λ p. (p.count ≤ row_length) × (p.row ≡ padded (take p.count p.row)) };
+
+    ghost inverse_ok = { λ p h. front_again (λ (row : List ℕ) (count : ℕ). record { row = row; count = count }) (replicate row_length 0) p.row p.count h.0 h.1 };
 }
 
 impl Point {
@@ -172,8 +179,10 @@ impl Point {
 }
 
 // A point's coordinates in a row; of more than its length, the first.
+#[tactic(auto, using(crate::proofs::Padded::padded_row))]
 fn row(coordinates: &[u32]) -> [u32; MAX_COORDINATES]
-    ensures { Row (take row_length coordinates.now) result }
+    ensures front { Row (take row_length coordinates.now) result }
+    ensures rest { result ≡ padded (take row_length coordinates.now) }
 {
     let mut row = [0u32; MAX_COORDINATES];
     lists::put(&mut row, coordinates);
@@ -194,15 +203,13 @@ pub fn standing_point(circuit: &[u32], layer: usize, past: &[u32]) -> Point
     let (u, rest) = past[start..].split_at(k);
     let (v, end) = rest.split_at(k);
     let f = layout::field(circuit);
-    Point {
-        row: summand::line_point(f, [row(u), row(v)], end[0]),
-        count: k.min(MAX_COORDINATES),
-    }
+    let line = summand::line_point(f, [row(u), row(v)], end[0]);
+    Point::new(&line[..k.min(MAX_COORDINATES)])
 }
 
 // What stands at a round: the standing point, and the layer's coins so far as coordinates of its two points, of which it has as many as the
 // layer's exponent says.
-#[derive(Default, Drop)]
+#[derive(Clone, Copy, Default)]
 pub struct Stand {
     pub point: Point,
     pub own: usize,

@@ -1,5 +1,5 @@
 -- `standing_point` meets its contract: the last 2k + 1 coins are those of the layer above, and its line ends at the point.
-use Rattle.std.proofs.Common.{ℕ, ◌-◌, ◌≡◌, List, length, length-drop, take, drop, get_or, ap, ap₂, ◌∙◌, subst, arith}
+use Rattle.std.proofs.Common.{ℕ, ◌-◌, ◌≡◌, List, length, length-drop, length-take, take, drop, get_or, ap, ap₂, ◌∙◌, subst, arith}
 use lib.Seq.{take_all}
 use Rattle.algebra.specs.Numbers.{words}
 use Rattle.extension.specs.Limits.{row_length}
@@ -28,12 +28,15 @@ returns c h =
     let second = c.split_at-2.ensures in
     let rest = first.back ∙ ap (drop k) coins in
     let f = prime_modulus l h.there.legal _ c.field-f.ensures in
-    rw c.min.ensures
+    let n = c.min.result in
+    let cut = length-take n c.line_point-line.result in
+    c.new-2.ensures ∙ take_all row_length (take n c.line_point-line.result) (omega (arith, cut, c.min.ensures))
+    ∙ rw c.min.ensures
     (standing_row l past c.args.layer k c.row.result c.row-2.result _ h c.if-layer-lt2.false c.exponent-k.ensures
     (record {
-      first = subst (λ (u : List ℕ). Row (take row_length u) c.row.result) (first.front ∙ ap (take k) coins) c.row.ensures;
-      second = subst (λ (v : List ℕ). Row (take row_length v) c.row-2.result) (second.front ∙ ap (take k) rest) c.row-2.ensures;
+      first = subst (λ (u : List ℕ). Row (take row_length u) c.row.result) (first.front ∙ ap (take k) coins) c.row.ensures.front;
+      second = subst (λ (v : List ℕ). Row (take row_length v) c.row-2.result) (second.front ∙ ap (take k) rest) c.row-2.ensures.front;
       point =
-          c.line_point.ensures
+          c.line_point-line.ensures
           ∙ ap₂ (λ (p : ℕ) (end : List ℕ). line_point (words p) c.row.result c.row-2.result (get_or end 0 0)) f (second.back ∙ ap (drop k) rest);
     }))

@@ -22,8 +22,8 @@ returns c =
           (record {
             own = c.min-own.ensures ∙ ap (λ (k : ℕ). min k row_length) c.exponent.ensures;
             fewer = c.min.ensures;
-            first = subst (λ (l : List ℕ). Row (take row_length l) c.row.result) (parts.front ∙ ap (take n) coins) c.row.ensures;
-            second = subst (λ (l : List ℕ). Row (take row_length l) c.row-2.result) (parts.back ∙ ap (drop n) coins) c.row-2.ensures;
+            first = subst (λ (l : List ℕ). Row (take row_length l) c.row.result) (parts.front ∙ ap (take n) coins) c.row.ensures.front;
+            second = subst (λ (l : List ℕ). Row (take row_length l) c.row-2.result) (parts.back ∙ ap (drop n) coins) c.row-2.ensures.front;
             point = subst (λ (l : List ℕ). PointStands a.circuit.now a.place.layer l stand.result) before stand.ensures;
           });
     }
