@@ -80,9 +80,10 @@ fn write_all(job: Job, messages: &mut [u32]) -> Proof
 pub fn prove(circuit: &[u32], input: &[u32], coins: &[u32], messages: &mut [u32]) -> Proof
     ensures { Proves circuit.now input.now coins.now messages.old result messages.new }
 {
+    let room = messages.len();
     match Job::check(circuit, input, coins) {
         Err(cause) => refusal(cause),
-        Ok(job) if standing::message_words(circuit) <= messages.len() => write_all(job, messages),
+        Ok(job) if standing::message_words(circuit) <= room => write_all(job, messages),
         Ok(_) => refusal(Cause::BufferShort),
     }
 }

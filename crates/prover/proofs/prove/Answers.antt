@@ -15,7 +15,7 @@ pub write_all-requires : goal.write_all-requires
 write_all-requires c =
     let legal : LegalCircuit c.in-Ok.job.circuit.now = its_circuit c.in-Ok.job.counted in
     let words = c.message_words.ensures (rw c.in-Ok.ensures.lists.0 at legal) in
-    let room : message_words c.args.circuit.now ≤ length c.args.messages.now = omega (arith, words, c.if-message_words-messages.true) in
+    let room : message_words c.args.circuit.now ≤ length c.args.messages.now = omega (arith, words, c.if-message_words-room.true) in
     rw c.in-Ok.ensures.lists.0 room
 
 pub returns-in-Ok : goal.returns-in-Ok
@@ -23,7 +23,7 @@ returns-in-Ok c =
     let same = c.in-Ok.ensures.lists in
     let legal : LegalCircuit c.in-Ok.job.circuit.now = its_circuit c.in-Ok.job.counted in
     let words = c.message_words.ensures (rw same.0 at legal) in
-    whole_written _ _ _ _ (sym (none_told c.in-Ok.is c.check.ensures.answer)) (omega (arith, words, c.if-message_words-messages.true)) _ _
+    whole_written _ _ _ _ (sym (none_told c.in-Ok.is c.check.ensures.answer)) (omega (arith, words, c.if-message_words-room.true)) _ _
     (rw (same.0, same.1, same.2) at c.write_all.ensures)
 
 pub returns-in-Ok-2 : goal.returns-in-Ok-2
@@ -31,4 +31,4 @@ returns-in-Ok-2 c =
     let legal : LegalCircuit c.in-Ok.job.circuit.now = its_circuit c.in-Ok.job.counted in
     let words = c.message_words.ensures (rw c.in-Ok.ensures.lists.0 at legal) in
     rw c.refusal-in-Ok-2.ensures
-    (whole_short _ _ _ _ (sym (none_told c.in-Ok.is c.check.ensures.answer)) (omega (arith, words, c.if-message_words-messages.false)))
+    (whole_short _ _ _ _ (sym (none_told c.in-Ok.is c.check.ensures.answer)) (omega (arith, words, c.if-message_words-room.false)))
