@@ -1,5 +1,5 @@
-//! What the archive needs from outside: two functions of the C library, which the C language asks of every place that
-//! it is compiled for.
+//! What the archive needs from outside: two functions of the C library, which a compiler calls where arrays are passed
+//! or cleared.
 use std::collections::BTreeSet;
 use std::env;
 use std::process::Command;
